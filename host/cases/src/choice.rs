@@ -1,0 +1,53 @@
+//! The options by which the programs choose cases.
+
+use crate::exhaustive::{Strings, DEFAULT_ALPHABET};
+use crate::{case, Kind, DEFAULT_SIZE};
+use oracle::args::Args;
+use oracle::{Call, Case};
+
+/// The part of the programs' help that tells these options.
+pub const HELP: &str = "\
+--seed N          the stream's seed; the same seed gives the same bytes everywhere
+--count N         the number of cases
+--kind KIND       grammar  grammatical texts of every production
+                  depth    texts of an exact measure from 60 to 68
+                  damage   damaged tokens and bytes
+                  tables   word tables, well formed and not
+                  room     buffers too short by one, exact, ample, of odd lengths
+                  bytes    random bytes
+                  limits   sources of 1,048,575 to 1,048,577 bytes
+                  all      a mixture (default)
+--size N          the greatest length of a list in a text (default 3)
+--exhaustive LEN  all strings of at most LEN bytes, with an empty table and room enough
+--alphabet STR    their bytes (default: a1.(),<>=-\"@/ ; with the blank and LF)
+--call CALL       their call: program, item, stmt, expr (default) or type
+";
+
+/// The cases that the options choose, or none where neither `--seed` nor `--exhaustive` is given.
+pub fn chosen(args: &mut Args) -> Result<Option<Box<dyn Iterator<Item = Case>>>, String> {
+    if let Some(longest) = args.number("--exhaustive")? {
+        return Ok(Some(exhaustive(args, longest as usize)?));
+    }
+    let Some(seed) = args.number("--seed")? else {
+        return Ok(None);
+    };
+    let count = args.number("--count")?.ok_or("--seed needs --count")?;
+    let size = args.number("--size")?.unwrap_or(DEFAULT_SIZE as u64) as usize;
+    let kind = args.value("--kind")?.unwrap_or("all".to_string());
+    let kind = Kind::from_name(&kind).ok_or(format!("unknown kind {kind}"))?;
+    Ok(Some(Box::new(
+        (0..count).map(move |index| case(kind, seed, index, size)),
+    )))
+}
+
+fn exhaustive(args: &mut Args, longest: usize) -> Result<Box<dyn Iterator<Item = Case>>, String> {
+    let alphabet = args
+        .value("--alphabet")?
+        .unwrap_or(DEFAULT_ALPHABET.to_string());
+    let call = args.value("--call")?.unwrap_or("expr".to_string());
+    let call = Call::from_name(&call).ok_or(format!("unknown call {call}"))?;
+    let strings = Strings::new(&alphabet, longest);
+    Ok(Box::new(
+        strings.map(move |text| Case::ample(call, text, Vec::new())),
+    ))
+}

@@ -1,0 +1,101 @@
+//! What the generator promises: grammatical texts, exact measures, the same bytes for the same seed.
+
+use cases::exhaustive::Strings;
+use cases::{case, measured_case, Kind, DEFAULT_SIZE};
+use oracle::{frame, Answer, Call, Case};
+
+fn number(case: &Case) -> u32 {
+    match oracle::read(case).answer {
+        Answer::Accepted { .. } => 0,
+        Answer::Refused(refusal) => refusal.number,
+    }
+}
+
+#[test]
+fn grammatical_texts_are_accepted() {
+    for size in [1, DEFAULT_SIZE, 8] {
+        for index in 0..2000 {
+            let case = case(Kind::Grammar, 11, index, size);
+            assert_eq!(
+                number(&case),
+                0,
+                "{:?}",
+                String::from_utf8_lossy(&case.source)
+            );
+        }
+    }
+}
+
+#[test]
+fn measures_are_exact() {
+    let mut at_the_limit = [0; 2];
+    for index in 0..20_000 {
+        let (case, measure) = measured_case(12, index);
+        let expected = if measure <= 64 { 0 } else { 20 };
+        let text = String::from_utf8_lossy(&case.source);
+        assert_eq!(
+            number(&case),
+            expected,
+            "measure {measure}, {} {text:?}",
+            case.call.name()
+        );
+        if let 64 | 65 = measure {
+            at_the_limit[measure - 64] += 1;
+        }
+    }
+    assert!(
+        at_the_limit.iter().all(|count| *count > 2000),
+        "{at_the_limit:?}"
+    );
+}
+
+#[test]
+fn depth_cases_are_the_measured_ones() {
+    for index in 0..50 {
+        assert_eq!(
+            case(Kind::Depth, 5, index, DEFAULT_SIZE),
+            measured_case(5, index).0
+        );
+    }
+}
+
+fn stream(kind: Kind, seed: u64, count: u64) -> Vec<u8> {
+    let mut out = Vec::new();
+    for index in 0..count {
+        frame::write_case(&case(kind, seed, index, DEFAULT_SIZE), &mut out).unwrap();
+    }
+    out
+}
+
+#[test]
+fn the_seed_decides() {
+    for (kind, name) in Kind::NAMES {
+        let count = if kind == Kind::Limits { 2 } else { 300 };
+        let first = stream(kind, 1, count);
+        assert!(
+            first == stream(kind, 1, count),
+            "{name} changes from run to run"
+        );
+        assert!(first != stream(kind, 2, count), "{name} ignores the seed");
+    }
+}
+
+#[test]
+fn strings_are_all_there() {
+    let strings: Vec<Vec<u8>> = Strings::new("ab", 2).collect();
+    let expected: [&[u8]; 7] = [b"", b"a", b"b", b"aa", b"ab", b"ba", b"bb"];
+    assert_eq!(strings, expected);
+    assert_eq!(Strings::new("abc", 5).count(), 1 + 3 + 9 + 27 + 81 + 243);
+    assert_eq!(Strings::new("", 5).count(), 1);
+}
+
+#[test]
+fn every_call_occurs() {
+    for (kind, name) in Kind::NAMES {
+        let count = if kind == Kind::Limits { 60 } else { 300 };
+        for call in Call::ALL {
+            let occurs = (0..count).any(|index| case(kind, 3, index, 1).call == call);
+            assert!(occurs, "no {} call among {name}", call.name());
+        }
+    }
+}

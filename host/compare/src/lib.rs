@@ -1,0 +1,115 @@
+//! Feeds cases to two readers and compares their answers byte for byte.
+
+mod minimise;
+mod reader;
+
+pub use minimise::minimised;
+pub use reader::{reader, Reader};
+
+use oracle::Case;
+use std::fmt;
+use std::io::Write;
+use std::time::{Duration, Instant};
+
+// Disagreements that are shown whole.
+const SHOWN: u64 = 3;
+const PROGRESS_EACH: Duration = Duration::from_secs(5);
+
+/// The numbers of cases and of disagreements.
+#[derive(Default)]
+pub struct Count {
+    pub cases: u64,
+    pub disagreements: u64,
+}
+
+impl fmt::Display for Count {
+    fn fmt(&self, f: &mut fmt::Formatter<'_>) -> fmt::Result {
+        let Count {
+            cases,
+            disagreements,
+        } = self;
+        write!(f, "{cases} cases, {disagreements} disagreements")
+    }
+}
+
+/// The answers of both readers to one case.
+pub struct Answers {
+    pub left: Vec<u8>,
+    pub right: Vec<u8>,
+}
+
+impl Answers {
+    pub fn agree(&self) -> bool {
+        self.left == self.right
+    }
+}
+
+/// The two readers to compare.
+pub struct Pair {
+    pub left: Box<dyn Reader>,
+    pub right: Box<dyn Reader>,
+}
+
+impl Pair {
+    pub fn read(&mut self, case: &Case) -> Result<Answers, String> {
+        let (mut left, mut right) = (Vec::new(), Vec::new());
+        self.left.read(case, &mut left)?;
+        self.right.read(case, &mut right)?;
+        Ok(Answers { left, right })
+    }
+
+    /// Compares all cases; shows the first disagreements and a small form of the first one on `out`.
+    pub fn compare(
+        &mut self,
+        cases: impl Iterator<Item = Result<Case, String>>,
+        out: &mut impl Write,
+    ) -> Result<Count, String> {
+        let mut count = Count::default();
+        let mut first = None;
+        let mut told = Instant::now();
+        for case in cases {
+            let case = case?;
+            let answers = self.read(&case)?;
+            count.cases += 1;
+            if !answers.agree() {
+                count.disagreements += 1;
+                if count.disagreements <= SHOWN {
+                    let title = format!("disagreement in case {}", count.cases);
+                    show(out, &title, &case, &answers)?;
+                    first.get_or_insert(case);
+                }
+            }
+            if told.elapsed() >= PROGRESS_EACH {
+                eprintln!("{count} so far");
+                told = Instant::now();
+            }
+        }
+        if let Some(case) = first {
+            let small = minimised(self, case)?;
+            let answers = self.read(&small)?;
+            show(out, "the first one, made smaller", &small, &answers)?;
+        }
+        Ok(count)
+    }
+}
+
+fn show(out: &mut impl Write, title: &str, case: &Case, answers: &Answers) -> Result<(), String> {
+    let Case {
+        call,
+        source,
+        words,
+        token_words,
+        tree_words,
+    } = case;
+    let mut text = format!("--- {title}\n");
+    text += &format!(
+        "call {}, {token_words} token words, {tree_words} tree words\n",
+        call.name()
+    );
+    text += &format!("source \"{}\"\n", source.escape_ascii());
+    text += &format!("table \"{}\"\n", words.escape_ascii());
+    text += &format!("left:\n{}", String::from_utf8_lossy(&answers.left));
+    text += &format!("right:\n{}", String::from_utf8_lossy(&answers.right));
+    out.write_all(text.as_bytes())
+        .map_err(|error| format!("cannot write: {error}"))
+}

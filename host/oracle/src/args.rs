@@ -1,0 +1,65 @@
+//! Command lines of the host's programs: options in any order, exit code 2 on bad usage or input.
+
+use std::process::ExitCode;
+
+/// The arguments that are not taken yet.
+pub struct Args {
+    rest: Vec<String>,
+}
+
+impl Args {
+    /// Takes an option without value.
+    pub fn flag(&mut self, name: &str) -> bool {
+        let place = self.rest.iter().position(|arg| arg == name);
+        place.map(|place| self.rest.remove(place)).is_some()
+    }
+
+    /// Takes an option with the value that follows it.
+    pub fn value(&mut self, name: &str) -> Result<Option<String>, String> {
+        let Some(place) = self.rest.iter().position(|arg| arg == name) else {
+            return Ok(None);
+        };
+        if place + 1 == self.rest.len() {
+            return Err(format!("{name} needs a value"));
+        }
+        self.rest.remove(place);
+        Ok(Some(self.rest.remove(place)))
+    }
+
+    /// Takes an option whose value is a number.
+    pub fn number(&mut self, name: &str) -> Result<Option<u64>, String> {
+        let Some(text) = self.value(name)? else {
+            return Ok(None);
+        };
+        let number = text
+            .parse()
+            .map_err(|_| format!("{name} needs a number, not `{text}`"))?;
+        Ok(Some(number))
+    }
+
+    /// The operands; every option must have been taken before.
+    pub fn operands<const N: usize>(self) -> Result<[String; N], String> {
+        if let Some(option) = self.rest.iter().find(|arg| arg.starts_with("--")) {
+            return Err(format!("unknown option {option}"));
+        }
+        let count = self.rest.len();
+        self.rest
+            .try_into()
+            .map_err(|_| format!("{count} operands given, {N} needed"))
+    }
+}
+
+/// Runs a program's body on its arguments; `--help` prints the help.
+pub fn run(help: &str, body: impl FnOnce(Args) -> Result<ExitCode, String>) -> ExitCode {
+    let mut args = Args {
+        rest: std::env::args().skip(1).collect(),
+    };
+    if args.flag("--help") {
+        print!("{help}");
+        return ExitCode::SUCCESS;
+    }
+    body(args).unwrap_or_else(|message| {
+        eprintln!("error: {message}\nsee --help");
+        ExitCode::from(2)
+    })
+}

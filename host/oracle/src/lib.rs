@@ -1,0 +1,149 @@
+//! The oracle: the original Rust reader behind the five calls of document 01.
+//!
+//! Tokens, trees, spans and refusals 4 to 10 and 12 to 22 come from the
+//! original's own functions. Refusals 1, 2, 3, 11 and 23, the lent word table
+//! and the two buffers are document 01's additions and are made here.
+
+pub mod args;
+pub mod frame;
+pub mod kinds;
+mod lex;
+mod refusal;
+pub mod table;
+mod tree;
+
+pub use refusal::Refusal;
+
+/// The longest source, in bytes.
+pub const MAX_SOURCE: usize = 1_048_576;
+/// Words of one token record.
+pub const TOKEN_WORDS: usize = 3;
+/// Words of one tree record.
+pub const TREE_WORDS: usize = 6;
+
+#[derive(Clone, Copy, Debug, PartialEq, Eq)]
+pub enum Call {
+    Program,
+    Item,
+    Stmt,
+    Expr,
+    Type,
+}
+
+impl Call {
+    pub const ALL: [Call; 5] = [
+        Call::Program,
+        Call::Item,
+        Call::Stmt,
+        Call::Expr,
+        Call::Type,
+    ];
+
+    pub fn name(self) -> &'static str {
+        match self {
+            Call::Program => "program",
+            Call::Item => "item",
+            Call::Stmt => "stmt",
+            Call::Expr => "expr",
+            Call::Type => "type",
+        }
+    }
+
+    pub fn from_name(name: &str) -> Option<Call> {
+        Call::ALL.into_iter().find(|call| call.name() == name)
+    }
+}
+
+/// One call with all its inputs; the two lengths are those of the lent u32 buffers, in words.
+#[derive(Clone, Debug, PartialEq, Eq)]
+pub struct Case {
+    pub call: Call,
+    pub source: Vec<u8>,
+    pub words: Vec<u8>,
+    pub token_words: usize,
+    pub tree_words: usize,
+}
+
+impl Case {
+    /// A case with room for as many tokens and records as a source of this length can have.
+    pub fn ample(call: Call, source: Vec<u8>, words: Vec<u8>) -> Case {
+        let most = source.len() + 1;
+        Case {
+            call,
+            source,
+            words,
+            token_words: TOKEN_WORDS * most,
+            tree_words: TREE_WORDS * most,
+        }
+    }
+}
+
+#[derive(Clone, Copy, Debug, PartialEq, Eq)]
+pub enum Answer {
+    Accepted { tokens: u32, records: u32 },
+    Refused(Refusal),
+}
+
+/// The answer of a call and the whole content of both buffers after it.
+#[derive(Clone, Debug, PartialEq, Eq)]
+pub struct Outcome {
+    pub answer: Answer,
+    pub tokens: Vec<u32>,
+    pub tree: Vec<u32>,
+}
+
+/// Reads a case as document 01 says.
+pub fn read(case: &Case) -> Outcome {
+    let mut tokens = vec![0; case.token_words];
+    let mut tree = vec![0; case.tree_words];
+    let answer = match fill(case, &mut tokens, &mut tree) {
+        Ok(accepted) => accepted,
+        Err(refusal) => Answer::Refused(refusal),
+    };
+    Outcome {
+        answer,
+        tokens,
+        tree,
+    }
+}
+
+// The tests in their order; a buffer is written only once its records are known to fit.
+fn fill(case: &Case, token_buffer: &mut [u32], tree_buffer: &mut [u32]) -> Result<Answer, Refusal> {
+    let lent = table::words(&case.words)?;
+    if case.source.len() > MAX_SOURCE {
+        return Err(Refusal::at(
+            refusal::SOURCE_TOO_LONG,
+            MAX_SOURCE,
+            MAX_SOURCE,
+        ));
+    }
+    let source = std::str::from_utf8(&case.source).map_err(|error| {
+        let at = error.valid_up_to();
+        Refusal::at(refusal::NOT_UTF8, at, at + 1)
+    })?;
+    let copy = lex::without_unlent_words(source, &lent);
+    let tokens = lex::tokens(source, &copy, &lent)?;
+    let token_records: Vec<_> = tokens.iter().map(lex::record).collect();
+    store(&token_records, token_buffer, refusal::NO_TOKEN_ROOM)?;
+    let tree_records = tree::records(case.call, &copy, &tokens)?;
+    store(&tree_records, tree_buffer, refusal::NO_TREE_ROOM)?;
+    Ok(Answer::Accepted {
+        tokens: tokens.len() as u32,
+        records: tree_records.len() as u32,
+    })
+}
+
+// Writes the records to the front of the buffer, or refuses by `number` with the need.
+fn store<const N: usize>(
+    records: &[[u32; N]],
+    buffer: &mut [u32],
+    number: u32,
+) -> Result<(), Refusal> {
+    if records.len() > buffer.len() / N {
+        return Err(Refusal::need(number, records.len()));
+    }
+    for (place, record) in buffer.chunks_exact_mut(N).zip(records) {
+        place.copy_from_slice(record);
+    }
+    Ok(())
+}
