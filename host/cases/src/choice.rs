@@ -1,7 +1,7 @@
 //! The options by which the programs choose cases.
 
 use crate::exhaustive::{Strings, DEFAULT_ALPHABET};
-use crate::{case, Kind, DEFAULT_SIZE};
+use crate::{case, scalars, Kind, DEFAULT_SIZE};
 use oracle::args::Args;
 use oracle::{Call, Case};
 
@@ -17,23 +17,30 @@ pub const HELP: &str = "\
                   bytes    random bytes
                   limits   sources of 1,048,575 to 1,048,577 bytes
                   all      a mixture (default)
+                  words    word tables of many words, sources of words nearly in them
+                  blocks   long runs of one script, whole or damaged at any offset
+                  scalars  every Unicode scalar in a string, in a comment and first;
+                           takes no seed and no count
 --size N          the greatest length of a list in a text (default 3)
 --exhaustive LEN  all strings of at most LEN bytes, with an empty table and room enough
 --alphabet STR    their bytes (default: a1.(),<>=-\"@/ ; with the blank and LF)
 --call CALL       their call: program, item, stmt, expr (default) or type
 ";
 
-/// The cases that the options choose, or none where neither `--seed` nor `--exhaustive` is given.
+/// The cases that the options choose, or none where they choose none.
 pub fn chosen(args: &mut Args) -> Result<Option<Box<dyn Iterator<Item = Case>>>, String> {
     if let Some(longest) = args.number("--exhaustive")? {
         return Ok(Some(exhaustive(args, longest as usize)?));
+    }
+    let kind = args.value("--kind")?.unwrap_or("all".to_string());
+    if kind == "scalars" {
+        return Ok(Some(Box::new(scalars::all())));
     }
     let Some(seed) = args.number("--seed")? else {
         return Ok(None);
     };
     let count = args.number("--count")?.ok_or("--seed needs --count")?;
     let size = args.number("--size")?.unwrap_or(DEFAULT_SIZE as u64) as usize;
-    let kind = args.value("--kind")?.unwrap_or("all".to_string());
     let kind = Kind::from_name(&kind).ok_or(format!("unknown kind {kind}"))?;
     Ok(Some(Box::new(
         (0..count).map(move |index| case(kind, seed, index, size)),

@@ -1,14 +1,17 @@
 //! The seeded generator of cases. The same kind, seed, index and size give the same case everywhere.
 
+mod blocks;
 pub mod choice;
 mod damage;
 pub mod exhaustive;
 mod grammar;
 mod layout;
 mod limits;
-mod rng;
+pub mod rng;
+pub mod scalars;
 pub mod stored;
 mod tables;
+pub mod words;
 
 use grammar::{Maker, Shape, LEVELS};
 use layout::lay_out;
@@ -28,11 +31,13 @@ pub enum Kind {
     Bytes,
     Limits,
     All,
+    Words,
+    Blocks,
 }
 
 impl Kind {
     /// The kinds with their names; `all` is a mixture of those before it.
-    pub const NAMES: [(Kind, &'static str); 8] = [
+    pub const NAMES: [(Kind, &'static str); 10] = [
         (Kind::Grammar, "grammar"),
         (Kind::Depth, "depth"),
         (Kind::Damage, "damage"),
@@ -41,6 +46,8 @@ impl Kind {
         (Kind::Bytes, "bytes"),
         (Kind::Limits, "limits"),
         (Kind::All, "all"),
+        (Kind::Words, "words"),
+        (Kind::Blocks, "blocks"),
     ];
 
     pub fn from_name(name: &str) -> Option<Kind> {
@@ -64,6 +71,8 @@ fn case_of(kind: Kind, rng: &mut Rng, size: usize) -> Case {
         Kind::Bytes => bytes_case(rng),
         Kind::Limits => limits::case(rng),
         Kind::All => case_of(mixed_kind(rng), rng, size),
+        Kind::Words => with_any_room(words::case(rng), rng),
+        Kind::Blocks => with_any_room(blocks::case(rng), rng),
     }
 }
 
@@ -74,7 +83,7 @@ pub fn measured_case(seed: u64, index: u64) -> (Case, usize) {
 
 // Each case has its own numbers, so that one can be made without those before it.
 fn rng_of(seed: u64, index: u64) -> Rng {
-    let first = Rng::new(seed).next();
+    let first = Rng::new(seed).bits();
     Rng::new(first ^ index.wrapping_mul(0xD134_2543_DE82_EF95))
 }
 

@@ -8,6 +8,7 @@ const USAGE: &str = "\
 cases: writes a stream of framed cases for the readers
 
 usage: cases --seed N --count N [--kind KIND] [--size N]
+       cases --kind scalars
        cases --exhaustive LEN [--alphabet STR] [--call CALL]
        cases --stored
 
@@ -32,7 +33,7 @@ fn write_cases(mut args: Args) -> Result<(), String> {
         return done(out.write_all(&stored::list()).and_then(|()| out.flush()));
     }
     let chosen = choice::chosen(&mut args)?
-        .ok_or("--seed and --count, --exhaustive or --stored is needed")?;
+        .ok_or("--seed and --count, --kind scalars, --exhaustive or --stored is needed")?;
     let [] = args.operands()?;
     for case in chosen {
         done(frame::write_case(&case, &mut out))?;

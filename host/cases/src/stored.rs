@@ -9,15 +9,20 @@ const SEED: u64 = 1;
 const TRIED: u64 = 6000;
 const LONGEST: usize = 180;
 const EACH: u32 = 3;
+const KINDS: [Kind; 6] = [
+    Kind::Grammar,
+    Kind::Depth,
+    Kind::Damage,
+    Kind::Tables,
+    Kind::Room,
+    Kind::Bytes,
+];
 
-/// A few cases for each kind, call and verdict and each kind of record, with short sources and tables.
+/// A few cases for each of these kinds, each call, verdict and kind of record, with short sources and tables.
 pub fn list() -> Vec<u8> {
     let mut out = Vec::new();
     let mut nodes = HashMap::new();
-    for (kind, _) in Kind::NAMES {
-        if matches!(kind, Kind::Limits | Kind::All) {
-            continue;
-        }
+    for kind in KINDS {
         let mut kept = HashMap::new();
         for index in 0..TRIED {
             let case = case(kind, SEED, index, 1);

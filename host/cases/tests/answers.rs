@@ -152,6 +152,30 @@ fn facts_of_every_outcome() {
     }
 }
 
+// The lexical part of an answer is its refusal up to 11, or the tokens alone.
+#[test]
+fn lexical_parts() {
+    for (case, outcome) in outcomes(3000) {
+        let part = oracle::read_lexical(&case);
+        assert_eq!(part.tokens, outcome.tokens);
+        assert!(part.tree.is_empty());
+        match (part.answer, outcome.answer) {
+            (Answer::Refused(part), whole) => {
+                assert!((1..=11).contains(&part.number));
+                assert_eq!(Answer::Refused(part), whole);
+            }
+            (Answer::Accepted { tokens, records }, Answer::Refused(refusal)) => {
+                let count = standing(&outcome.tokens, TOKEN_WORDS).len();
+                assert_eq!((tokens as usize, records), (count, 0));
+                assert!(refusal.number > 11);
+            }
+            (Answer::Accepted { tokens, records }, Answer::Accepted { tokens: whole, .. }) => {
+                assert_eq!((tokens, records), (whole, 0));
+            }
+        }
+    }
+}
+
 fn standing(words: &[u32], width: usize) -> Vec<&[u32]> {
     words
         .chunks_exact(width)

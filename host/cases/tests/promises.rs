@@ -1,7 +1,7 @@
 //! What the generator promises: grammatical texts, exact measures, the same bytes for the same seed.
 
 use cases::exhaustive::Strings;
-use cases::{case, measured_case, Kind, DEFAULT_SIZE};
+use cases::{case, measured_case, scalars, Kind, DEFAULT_SIZE};
 use oracle::{frame, Answer, Call, Case};
 
 fn number(case: &Case) -> u32 {
@@ -87,6 +87,37 @@ fn strings_are_all_there() {
     assert_eq!(strings, expected);
     assert_eq!(Strings::new("abc", 5).count(), 1 + 3 + 9 + 27 + 81 + 243);
     assert_eq!(Strings::new("", 5).count(), 1);
+}
+
+#[test]
+fn scalars_share_a_source_where_none_is_refused() {
+    let sources = |scalars: &'static str| -> Vec<String> {
+        scalars::of(move || scalars.chars())
+            .map(|case| String::from_utf8(case.source).unwrap())
+            .collect()
+    };
+    let shared = ["\"z\" ", "\"ö\" \"一\" ", "//z\na ", "//ö\na //一\na "];
+    assert_eq!(sources("zö一")[..4], shared);
+    let alone = ["\"ö\" ", "\"\u{200B}\" ", "//ö\na ", "//\u{200B}\na "];
+    assert_eq!(sources("ö\u{200B}")[..4], alone);
+    assert_eq!(sources("ö\u{200B}")[4..], ["öa", "\u{200B}a"]);
+}
+
+// The original bars exactly the characters that document 01 lists.
+#[test]
+fn barred_scalars() {
+    #[rustfmt::skip]
+    let listed = [
+        0x85..=0x85, 0xAD..=0xAD, 0x61C..=0x61C, 0x180E..=0x180E, 0x200B..=0x200F, 0x2028..=0x202E,
+        0x2060..=0x2064, 0x2066..=0x206F, 0xFEFF..=0xFEFF, 0xFFF9..=0xFFFB,
+    ];
+    let is_barred = |scalar: &char| {
+        let source = format!("\"{scalar}\"").into_bytes();
+        let outcome = oracle::read_lexical(&Case::ample(Call::Expr, source, Vec::new()));
+        matches!(outcome.answer, Answer::Refused(refusal) if refusal.number == 5)
+    };
+    let barred = ('\0'..=char::MAX).filter(is_barred).map(u32::from);
+    assert!(barred.eq(listed.into_iter().flatten()));
 }
 
 #[test]

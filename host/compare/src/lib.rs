@@ -1,10 +1,10 @@
-//! Feeds cases to two readers and compares their answers byte for byte.
+//! Feeds cases to two readers and compares their whole answers.
 
 mod minimise;
 mod reader;
 
 pub use minimise::minimised;
-pub use reader::{reader, Reader};
+pub use reader::{reader, Reader, Reading};
 
 use oracle::Case;
 use std::fmt;
@@ -34,13 +34,13 @@ impl fmt::Display for Count {
 
 /// The answers of both readers to one case.
 pub struct Answers {
-    pub left: Vec<u8>,
-    pub right: Vec<u8>,
+    pub left: Reading,
+    pub right: Reading,
 }
 
 impl Answers {
     pub fn agree(&self) -> bool {
-        self.left == self.right
+        self.left.agrees(&self.right)
     }
 }
 
@@ -52,10 +52,10 @@ pub struct Pair {
 
 impl Pair {
     pub fn read(&mut self, case: &Case) -> Result<Answers, String> {
-        let (mut left, mut right) = (Vec::new(), Vec::new());
-        self.left.read(case, &mut left)?;
-        self.right.read(case, &mut right)?;
-        Ok(Answers { left, right })
+        Ok(Answers {
+            left: self.left.read(case)?,
+            right: self.right.read(case)?,
+        })
     }
 
     /// Compares all cases; shows the first disagreements and a small form of the first one on `out`.
@@ -108,8 +108,11 @@ fn show(out: &mut impl Write, title: &str, case: &Case, answers: &Answers) -> Re
     );
     text += &format!("source \"{}\"\n", source.escape_ascii());
     text += &format!("table \"{}\"\n", words.escape_ascii());
-    text += &format!("left:\n{}", String::from_utf8_lossy(&answers.left));
-    text += &format!("right:\n{}", String::from_utf8_lossy(&answers.right));
+    text += &format!("left:\n{}", String::from_utf8_lossy(&answers.left.lines()));
+    text += &format!(
+        "right:\n{}",
+        String::from_utf8_lossy(&answers.right.lines())
+    );
     out.write_all(text.as_bytes())
         .map_err(|error| format!("cannot write: {error}"))
 }

@@ -7,14 +7,20 @@ use std::io::BufReader;
 use std::process::ExitCode;
 
 const USAGE: &str = "\
-compare: feeds the same cases to two readers and compares their answers byte for byte
+compare: feeds the same cases to two readers and compares their whole answers
 
 usage: compare LEFT RIGHT --seed N --count N [--kind KIND] [--size N]
+       compare LEFT RIGHT --kind scalars
        compare LEFT RIGHT --exhaustive LEN [--alphabet STR] [--call CALL]
        compare LEFT RIGHT --stream FILE
 
-LEFT, RIGHT       readers: `oracle`, or `cmd:PROGRAM ARGS`, a program that takes framed
-                  cases on standard input and writes the whole answer to each at once
+LEFT, RIGHT       readers:
+                  oracle         the original
+                  lexical        the original as far as the tokens: refusals 1 to 11, or
+                                 `A tokens 0`, and the token buffer
+                  proved-lexer   the proved crates as far as the tokens
+                  cmd:PROGRAM ARGS   a program that takes framed cases on standard input
+                                 and writes the whole answer to each at once
 --stream FILE     the cases of a file with framed cases
 ";
 const REST: &str = "\
@@ -49,6 +55,6 @@ fn chosen(args: &mut Args) -> Result<Cases, String> {
         })));
     }
     let cases = cases::choice::chosen(args)?
-        .ok_or("--seed and --count, --exhaustive or --stream is needed")?;
+        .ok_or("--seed and --count, --kind scalars, --exhaustive or --stream is needed")?;
     Ok(Box::new(cases.map(Ok)))
 }

@@ -1,32 +1,66 @@
 //! Readers: whatever answers cases.
 
 use oracle::frame::{self, Frames};
-use oracle::Case;
+use oracle::{Case, Outcome};
 use std::io::{BufReader, Write};
 use std::process::{Child, ChildStdin, ChildStdout, Command, Stdio};
 
-/// Appends the whole answer to a case, as the frames say, to `out`.
-pub trait Reader {
-    fn read(&mut self, case: &Case, out: &mut Vec<u8>) -> Result<(), String>;
+/// A reader's whole answer: as it is from a linked reader, as a frame's lines from a program.
+pub enum Reading {
+    Outcome(Outcome),
+    Lines(Vec<u8>),
 }
 
-/// The reader of this name: `oracle`, or `cmd:PROGRAM ARGS` for a child process.
+impl Reading {
+    /// The answer's lines.
+    pub fn lines(&self) -> Vec<u8> {
+        match self {
+            Reading::Outcome(outcome) => {
+                let mut out = Vec::new();
+                frame::write_answer(outcome, &mut out);
+                out
+            }
+            Reading::Lines(lines) => lines.clone(),
+        }
+    }
+
+    /// Whether two answers are the same. Those of linked readers are compared word by word, without lines.
+    pub fn agrees(&self, other: &Reading) -> bool {
+        match (self, other) {
+            (Reading::Outcome(left), Reading::Outcome(right)) => left == right,
+            _ => self.lines() == other.lines(),
+        }
+    }
+}
+
+/// Answers cases.
+pub trait Reader {
+    fn read(&mut self, case: &Case) -> Result<Reading, String>;
+}
+
+impl<F: FnMut(&Case) -> Outcome> Reader for F {
+    fn read(&mut self, case: &Case) -> Result<Reading, String> {
+        Ok(Reading::Outcome(self(case)))
+    }
+}
+
+type Linked = fn(&Case) -> Outcome;
+
+/// The linked readers by name.
+const LINKED: [(&str, Linked); 3] = [
+    ("oracle", oracle::read),
+    ("lexical", oracle::read_lexical),
+    ("proved-lexer", proved::read_lexical),
+];
+
+/// The reader of this name: a linked one, or `cmd:PROGRAM ARGS` for a child process.
 pub fn reader(name: &str) -> Result<Box<dyn Reader>, String> {
-    if name == "oracle" {
-        return Ok(Box::new(Oracle));
+    if let Some((_, read)) = LINKED.iter().find(|(known, _)| *known == name) {
+        return Ok(Box::new(*read));
     }
     match name.strip_prefix("cmd:") {
         Some(command) => Ok(Box::new(Process::start(command)?)),
         None => Err(format!("unknown reader {name}")),
-    }
-}
-
-struct Oracle;
-
-impl Reader for Oracle {
-    fn read(&mut self, case: &Case, out: &mut Vec<u8>) -> Result<(), String> {
-        frame::write_answer(&oracle::read(case), out);
-        Ok(())
     }
 }
 
@@ -59,14 +93,16 @@ impl Process {
 }
 
 impl Reader for Process {
-    fn read(&mut self, case: &Case, out: &mut Vec<u8>) -> Result<(), String> {
+    fn read(&mut self, case: &Case) -> Result<Reading, String> {
         let mut frame = Vec::new();
         frame::write_case(case, &mut frame).expect("a Vec takes every write");
         let sent = self.input.write_all(&frame);
         sent.map_err(|error| format!("{} takes no case: {error}", self.command))?;
+        let mut lines = Vec::new();
         self.output
-            .next_answer(out)
-            .map_err(|error| format!("{} answers badly: {error}", self.command))
+            .next_answer(&mut lines)
+            .map_err(|error| format!("{} answers badly: {error}", self.command))?;
+        Ok(Reading::Lines(lines))
     }
 }
 

@@ -2,20 +2,15 @@
 
 use cases::{case, Kind, DEFAULT_SIZE};
 use compare::{minimised, reader, Pair, Reader};
-use oracle::{frame, Answer, Call, Case};
+use oracle::{Answer, Call, Case, Outcome};
 
 // The oracle, but one off in `found` wherever a `;` is found.
-struct Slip;
-
-impl Reader for Slip {
-    fn read(&mut self, case: &Case, out: &mut Vec<u8>) -> Result<(), String> {
-        let mut outcome = oracle::read(case);
-        if let Answer::Refused(refusal) = &mut outcome.answer {
-            refusal.found += u32::from(refusal.found == 41);
-        }
-        frame::write_answer(&outcome, out);
-        Ok(())
+fn slip(case: &Case) -> Outcome {
+    let mut outcome = oracle::read(case);
+    if let Answer::Refused(refusal) = &mut outcome.answer {
+        refusal.found += u32::from(refusal.found == 41);
     }
+    outcome
 }
 
 fn cases(count: u64) -> impl Iterator<Item = Result<Case, String>> {
@@ -39,7 +34,7 @@ fn the_oracle_agrees_with_itself() {
 #[test]
 fn a_slip_is_found_and_shown() {
     let mut out = Vec::new();
-    let count = against_the_oracle(Box::new(Slip))
+    let count = against_the_oracle(Box::new(slip))
         .compare(cases(500), &mut out)
         .unwrap();
     assert!(count.disagreements > 0);
@@ -52,11 +47,35 @@ fn a_slip_is_found_and_shown() {
     assert!(small.contains(";\"\ntable \"\"\nleft:\nR "), "{small}");
 }
 
+fn has_spare_words(case: &Case) -> bool {
+    !case.token_words.is_multiple_of(3)
+}
+
+// The lexical oracle, but it forgets the last zero of a buffer with words to spare.
+fn rubbish(case: &Case) -> Outcome {
+    let mut outcome = oracle::read_lexical(case);
+    if has_spare_words(case) {
+        *outcome.tokens.last_mut().unwrap() = 1;
+    }
+    outcome
+}
+
+#[test]
+fn a_word_that_is_not_zero_is_found() {
+    let mut pair = Pair {
+        left: reader("lexical").unwrap(),
+        right: Box::new(rubbish),
+    };
+    let count = pair.compare(cases(500), &mut Vec::new()).unwrap();
+    let spare = cases(500).filter(|case| case.as_ref().is_ok_and(has_spare_words));
+    assert_eq!(count.disagreements, spare.count() as u64);
+}
+
 #[test]
 fn inputs_become_small() {
     let words = oracle::table::encode(["b", "c"]);
     let case = Case::ample(Call::Stmt, b"// note\nlet a = f(1) +;".to_vec(), words);
-    let small = minimised(&mut against_the_oracle(Box::new(Slip)), case).unwrap();
+    let small = minimised(&mut against_the_oracle(Box::new(slip)), case).unwrap();
     assert_eq!((small.source, small.words), (b";".to_vec(), Vec::new()));
 }
 

@@ -39,13 +39,19 @@ impl Args {
 
     /// The operands; every option must have been taken before.
     pub fn operands<const N: usize>(self) -> Result<[String; N], String> {
-        if let Some(option) = self.rest.iter().find(|arg| arg.starts_with("--")) {
-            return Err(format!("unknown option {option}"));
-        }
-        let count = self.rest.len();
-        self.rest
+        let operands = self.any_operands()?;
+        let count = operands.len();
+        operands
             .try_into()
             .map_err(|_| format!("{count} operands given, {N} needed"))
+    }
+
+    /// The operands, however many.
+    pub fn any_operands(self) -> Result<Vec<String>, String> {
+        match self.rest.iter().find(|arg| arg.starts_with("--")) {
+            Some(option) => Err(format!("unknown option {option}")),
+            None => Ok(self.rest),
+        }
     }
 }
 

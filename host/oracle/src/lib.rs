@@ -14,6 +14,8 @@ mod tree;
 
 pub use refusal::Refusal;
 
+use quanta_lexer::Token;
+
 /// The longest source, in bytes.
 pub const MAX_SOURCE: usize = 1_048_576;
 /// Words of one token record.
@@ -107,8 +109,42 @@ pub fn read(case: &Case) -> Outcome {
     }
 }
 
+/// Reads a case as far as its tokens: refusals 1 to 11, or accepted with no records. There is no tree buffer.
+pub fn read_lexical(case: &Case) -> Outcome {
+    let mut tokens = vec![0; case.token_words];
+    let answer = match fill_tokens(case, &mut tokens) {
+        Ok(lexed) => Answer::Accepted {
+            tokens: lexed.tokens.len() as u32,
+            records: 0,
+        },
+        Err(refusal) => Answer::Refused(refusal),
+    };
+    Outcome {
+        answer,
+        tokens,
+        tree: Vec::new(),
+    }
+}
+
 // The tests in their order; a buffer is written only once its records are known to fit.
 fn fill(case: &Case, token_buffer: &mut [u32], tree_buffer: &mut [u32]) -> Result<Answer, Refusal> {
+    let lexed = fill_tokens(case, token_buffer)?;
+    let tree_records = tree::records(case.call, &lexed.text, &lexed.tokens)?;
+    store(&tree_records, tree_buffer, refusal::NO_TREE_ROOM)?;
+    Ok(Answer::Accepted {
+        tokens: lexed.tokens.len() as u32,
+        records: tree_records.len() as u32,
+    })
+}
+
+// The text that the original reads in place of the source, and its tokens.
+struct Lexed {
+    text: String,
+    tokens: Vec<Token>,
+}
+
+// Tests 1 to 11, and the token buffer.
+fn fill_tokens(case: &Case, buffer: &mut [u32]) -> Result<Lexed, Refusal> {
     let lent = table::words(&case.words)?;
     if case.source.len() > MAX_SOURCE {
         return Err(Refusal::at(
@@ -121,16 +157,11 @@ fn fill(case: &Case, token_buffer: &mut [u32], tree_buffer: &mut [u32]) -> Resul
         let at = error.valid_up_to();
         Refusal::at(refusal::NOT_UTF8, at, at + 1)
     })?;
-    let copy = lex::without_unlent_words(source, &lent);
-    let tokens = lex::tokens(source, &copy, &lent)?;
-    let token_records: Vec<_> = tokens.iter().map(lex::record).collect();
-    store(&token_records, token_buffer, refusal::NO_TOKEN_ROOM)?;
-    let tree_records = tree::records(case.call, &copy, &tokens)?;
-    store(&tree_records, tree_buffer, refusal::NO_TREE_ROOM)?;
-    Ok(Answer::Accepted {
-        tokens: tokens.len() as u32,
-        records: tree_records.len() as u32,
-    })
+    let text = lex::without_unlent_words(source, &lent);
+    let tokens = lex::tokens(source, &text, &lent)?;
+    let records: Vec<_> = tokens.iter().map(lex::record).collect();
+    store(&records, buffer, refusal::NO_TOKEN_ROOM)?;
+    Ok(Lexed { text, tokens })
 }
 
 // Writes the records to the front of the buffer, or refuses by `number` with the need.

@@ -1,0 +1,6 @@
+pub mod Grammar
+pub mod Names
+pub mod Records
+pub mod Reader
+pub mod Fused
+pub mod Facts

@@ -1,0 +1,10 @@
+pub mod Tables
+pub mod Calls
+pub mod Coherent
+pub mod Complaint
+pub mod Refined
+pub mod MeasureLaws
+pub mod Theorems
+pub mod Readings
+pub mod Steps
+pub mod Loops

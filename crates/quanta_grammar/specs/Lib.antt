@@ -1,0 +1,11 @@
+pub mod NodeKind
+pub mod FineKind
+pub mod RefusalKind
+pub mod Productions
+pub mod Guides
+pub mod Names
+pub mod Reading
+pub mod Refine
+pub mod Measuring
+pub mod OwnTokens
+pub mod Complaint

@@ -1,0 +1,1 @@
+// The grammar of Quanta and its theorems: definitions in specs/, proofs in proofs/.

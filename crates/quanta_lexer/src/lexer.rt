@@ -1,0 +1,209 @@
+// Copyright 2026 Quantova Inc
+// SPDX-License-Identifier: Apache-2.0 OR MIT
+
+// The whole reading of bytes into token records.
+use crate::refusal::BAD_TABLE;
+use crate::refusal::BARE_RETURN;
+use crate::refusal::BARRED_CHARACTER;
+use crate::refusal::LONG_SOURCE;
+use crate::refusal::NOT_UTF8;
+use crate::refusal::SOURCE_LIMIT;
+use crate::refusal::TABLE_LIMIT;
+use crate::scan::BytePos;
+use crate::scan::Lexed;
+use crate::scan::next_token;
+use crate::scan::skip_trivia;
+use quanta_source::source::Checked;
+use quanta_source::source::check_source;
+use quanta_token::bytes::chart;
+use quanta_token::token::EOF;
+use quanta_words::index::index_words;
+use quanta_words::lookup::sift;
+use quanta_words::words::check_words;
+use utf8::Found;
+use utf8::first_bad;
+ghost use mathlib.Core.Path.{_≡_};
+ghost use Prim.Native.Nat.{_≤_, _<_, _^_};
+ghost use lib.ListN.{length, replicate};
+ghost use Rattle.quanta_token.specs.Bytes.{Chart};
+ghost use Rattle.quanta_words.specs.Lookup.{Prepared};
+ghost use Rattle.quanta_lexer.specs.Refusals.{sourceLimit};
+ghost use Rattle.quanta_lexer.specs.Tokens.{tok, store, lexAll, Ran};
+ghost use Rattle.quanta_lexer.specs.Tokenizing.{reading, Written, tokenizing, tokenWords};
+
+// The number of tokens, or the first of the refusals 1 to 10.
+pub enum Read {
+    Tokens(usize),
+    Stopped {
+        number: u32,
+        start: usize,
+        end: usize,
+    },
+}
+
+// The whole answer: the number of tokens, a refusal 1 to 10, or 11 with the need.
+pub enum Answer {
+    Accepted(usize),
+    Refused {
+        number: u32,
+        start: usize,
+        end: usize,
+    },
+    Short(usize),
+}
+
+// A refusal with its number and span.
+fn stopped(number: u32, start: usize, end: usize) -> Read
+    ensures { λ r. ⌜ r ≡ Read.Stopped number start end ⌝ }
+{
+    Read::Stopped {
+        number: number,
+        start: start,
+        end: end,
+    }
+}
+
+// Writes a token's record after n others, if it has room.
+fn write_token(tokens: &mut [u32], n: usize, kind: u32, start: usize, end: usize)
+    requires { ⌜ (n < 2 ^ 32) × (start < 2 ^ 32) × (end < 2 ^ 32) ⌝ }
+    ensures { λ _. ⌜ now (tokens .exit) ≡ store n (tok kind start end) (now (tokens .entry)) ⌝ }
+{
+    let at = 3 * n;
+    if at + 3 <= tokens.len() {
+        tokens[at] = kind;
+        tokens[at + 1] = start as u32;
+        tokens[at + 2] = end as u32;
+    }
+}
+
+// The tokens of a source, their records written as far as there is room; or the first failing token.
+fn run(
+    chart: &[u8; 256],
+    src: &[u8],
+    words: &[u8],
+    seen: &[u8; 1280],
+    index: &[u16],
+    tokens: &mut [u32],
+) -> Read
+    requires { ⌜ (length (now src) ≤ sourceLimit) × Chart (now chart) × Prepared (now words) (now seen) (now index) ⌝ }
+    ensures { λ r. ⌜ Ran (now (src .entry)) (now (words .entry)) (now (tokens .entry)) (now (tokens .exit)) r ⌝ }
+{
+    let mut n: usize = 0;
+    let mut i: usize = 0;
+    loop {
+        let here = skip_trivia(chart, src, BytePos(i));
+        let at = here.0;
+        match next_token(chart, src, words, seen, index, here) {
+            Lexed::End => {
+                write_token(tokens, n, EOF, at, at);
+                let count = n + 1;
+                return Read::Tokens(count);
+            }
+            Lexed::Refused { number, start, end } => {
+                return stopped(number, start.0, end.0);
+            }
+            Lexed::Token { kind, start, end } => {
+                write_token(tokens, n, kind, start.0, end.0);
+                n += 1;
+                i = end.0;
+            }
+        }
+    }
+}
+
+// A word table of more bytes than this gets an index.
+const SHORT_TABLE: usize = 512;
+
+// The tokens, with an index of the word table in the words lent for it.
+fn run_indexed(src: &[u8], words: &[u8], index: &mut [u16], tokens: &mut [u32]) -> Read
+    requires { ⌜ length (now src) ≤ sourceLimit ⌝ }
+    ensures { λ r. ⌜ Ran (now (src .entry)) (now (words .entry)) (now (tokens .entry)) (now (tokens .exit)) r ⌝ }
+{
+    let n = index_words(words, index);
+    run(&chart(), src, words, &sift(words), &index[..n], tokens)
+}
+
+// The tokens under a long table: no table has more records than that.
+fn run_long(src: &[u8], words: &[u8], tokens: &mut [u32]) -> Read
+    requires { ⌜ length (now src) ≤ sourceLimit ⌝ }
+    ensures { λ r. ⌜ Ran (now (src .entry)) (now (words .entry)) (now (tokens .entry)) (now (tokens .exit)) r ⌝ }
+{
+    let mut index = [0u16; 16384];
+    run_indexed(src, words, &mut index, tokens)
+}
+
+// The tokens. A table of 512 bytes has at most 128 records, and its index takes little to clear.
+fn run_by_size(src: &[u8], words: &[u8], tokens: &mut [u32]) -> Read
+    requires { ⌜ length (now src) ≤ sourceLimit ⌝ }
+    ensures { λ r. ⌜ Ran (now (src .entry)) (now (words .entry)) (now (tokens .entry)) (now (tokens .exit)) r ⌝ }
+{
+    if 512 < words.len() {
+        return run_long(src, words, tokens);
+    }
+    let mut index = [0u16; 128];
+    run_indexed(src, words, &mut index, tokens)
+}
+
+// The refusals 1 to 10 in order of test, or the tokens.
+fn read_source(src: &[u8], words: &[u8], tokens: &mut [u32]) -> Read
+    ensures { λ r.
+        ⌜ (r ≡ reading (now (src .entry)) (now (words .entry)))
+        × Written (lexAll (now (src .entry)) (now (words .entry)) .toks) (now (tokens .entry)) (now (tokens .exit)) r ⌝ }
+{
+    if TABLE_LIMIT < words.len() {
+        return stopped(BAD_TABLE, TABLE_LIMIT, TABLE_LIMIT);
+    }
+    let bad = check_words(words);
+    if bad < words.len() {
+        return stopped(BAD_TABLE, bad, bad);
+    }
+    if SOURCE_LIMIT < src.len() {
+        return stopped(LONG_SOURCE, SOURCE_LIMIT, SOURCE_LIMIT);
+    }
+    if let Found::At(i) = first_bad(src) {
+        return stopped(NOT_UTF8, i, i + 1);
+    }
+    match check_source(src) {
+        Checked::CarriageReturn(i) => stopped(BARE_RETURN, i, i + 1),
+        Checked::Barred(i) => stopped(BARRED_CHARACTER, i, i + 1),
+        Checked::Clean => run_by_size(src, words, tokens),
+    }
+}
+
+// Makes every word 0.
+fn clear(tokens: &mut [u32])
+    ensures { λ _. ⌜ now (tokens .exit) ≡ replicate (length (now (tokens .entry))) 0 ⌝ }
+{
+    let mut i = 0;
+    while i < tokens.len() {
+        tokens[i] = 0;
+        i += 1;
+    }
+}
+
+// The whole reading of bytes into tokens: the answer, and every word of the buffer. Only what no record fills is made 0.
+pub fn tokenize(src: &[u8], words: &[u8], tokens: &mut [u32]) -> Answer
+    ensures { λ r.
+        ⌜ (r ≡ tokenizing (now (src .entry)) (now (words .entry)) (length (now (tokens .entry))))
+        × (now (tokens .exit) ≡ tokenWords (now (src .entry)) (now (words .entry)) (length (now (tokens .entry)))) ⌝ }
+{
+    match read_source(src, words, tokens) {
+        Read::Stopped { number, start, end } => {
+            clear(tokens);
+            Answer::Refused {
+                number: number,
+                start: start,
+                end: end,
+            }
+        }
+        Read::Tokens(n) => {
+            if tokens.len() / 3 < n {
+                clear(tokens);
+                return Answer::Short(n);
+            }
+            let used = 3 * n;
+            clear(&mut tokens[used..]);
+            Answer::Accepted(n)
+        }
+    }
+}

@@ -1,0 +1,2 @@
+// What no source may hold: a CR without LF, and the barred characters.
+pub mod source;

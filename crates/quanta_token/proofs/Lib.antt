@@ -1,0 +1,5 @@
+pub mod BoolLaws
+pub mod ByteLaws
+pub mod RunLaws
+pub mod SpellLaws
+pub mod TextLaws

@@ -1,0 +1,7 @@
+pub mod Bytes
+pub mod Keywords
+pub mod Runs
+pub mod Symbols
+pub mod Text
+pub mod Token
+pub mod TokenKind

@@ -1,0 +1,4 @@
+pub mod WordLaws
+pub mod IndexLaws
+pub mod LookupLaws
+pub mod Theorems

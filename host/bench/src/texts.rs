@@ -1,0 +1,175 @@
+//! The texts that are read, each a little less than 1 MiB, and the word tables that cost most.
+
+use crate::typical;
+use cases::rng::Rng;
+use cases::words::{listed, Likeness};
+use oracle::table::{self, MAX_TABLE};
+use oracle::MAX_SOURCE;
+use std::collections::HashSet;
+
+// Lengths of short word tables, for which a lexer may do without an index.
+const SHORT: usize = 512;
+const SHORTER: usize = 128;
+
+// A few bytes are left for what is put behind a text to have it refused there.
+const LONGEST: usize = MAX_SOURCE - 8;
+
+/// A text with its word table.
+pub struct Text {
+    pub name: &'static str,
+    pub source: Vec<u8>,
+    pub words: Vec<u8>,
+}
+
+/// The names of the texts that are read with the original's own word list.
+pub const NAMES: [&str; 12] = [
+    "typical", "cjk", "cyrillic", "crlf", "quotes", "comments", "blanks", "names", "strings",
+    "numbers", "symbols", "refused",
+];
+
+/// The text of this name.
+pub fn text(name: &str) -> Option<Text> {
+    let plain = NAMES.into_iter().find(|known| *known == name);
+    match plain {
+        Some(name) => Some(plain_text(name)),
+        None => word_texts().into_iter().find(|text| text.name == name),
+    }
+}
+
+fn plain_text(name: &'static str) -> Text {
+    let rng = &mut Rng::new(7);
+    let source = match name {
+        "typical" => typical::program(LONGEST),
+        "crlf" => typical::program(LONGEST - LONGEST / 23).replace('\n', "\r\n"),
+        "refused" => typical::program(LONGEST) + "#",
+        "cjk" => filled(|| format!("    title = \"{}\";\n", letters(rng, '一', 5000))),
+        "cyrillic" => filled(|| format!("    title = \"{}\";\n", letters(rng, 'А', 64))),
+        "quotes" => filled(|| "// “so” – ‘or so’ …\nx = \"“”‘’–—…\";\n".to_string()),
+        "comments" => filled(|| format!("// {}\n", letters(rng, 'a', 26))),
+        "blanks" => filled(|| format!("{}\n", " ".repeat(rng.below(16)))),
+        "names" => filled(|| format!("{} ", &letters(rng, 'a', 12)[..3 + rng.below(10)])),
+        "strings" => filled(|| format!("\"{}\" ", letters(rng, 'a', 26))),
+        "numbers" => filled(|| format!("{} @2026-01-31 ", 1 + rng.below(1_000_000_000))),
+        _ => filled(|| format!("{} ", rng.pick(&["(", ")", ">>", "+=", ";", "-", "{", "}"]))),
+    };
+    Text {
+        name,
+        source: source.into_bytes(),
+        words: table::original(),
+    }
+}
+
+/// Texts of words that are not in their table, which is as long as can be, or short for the last two.
+pub fn word_texts() -> Vec<Text> {
+    let mut rng = Rng::new(9);
+    let mut list = |likeness, longest| listed(likeness, longest, &mut rng);
+    let any = list(Likeness::None, MAX_TABLE);
+    let few = list(Likeness::Doubles, MAX_TABLE);
+    let tiny = list(Likeness::Short, MAX_TABLE);
+    let short = list(Likeness::Short, SHORT);
+    let shorter = list(Likeness::Short, SHORTER);
+    let mut same_kind = |name, likeness| {
+        let (held, missed) = (list(likeness, MAX_TABLE), list(likeness, MAX_TABLE));
+        word_text(name, &held, missed)
+    };
+    vec![
+        same_kind("any-words", Likeness::None),
+        same_kind("same-front", Likeness::Prefix),
+        same_kind("long-words", Likeness::Long),
+        same_kind("three-bytes", Likeness::Three),
+        word_text("last-byte-off", &any, changed(&any, last_byte_off)),
+        word_text("doubles", &few, changed(&few, last_byte_off)),
+        word_text("short-words", &tiny, changed(&tiny, last_byte_off)),
+        word_text("short-table", &short, changed(&short, other_case)),
+        word_text("shorter-table", &shorter, changed(&shorter, other_case)),
+    ]
+}
+
+// A text of those words that are not held.
+fn word_text(name: &'static str, held: &[String], mut missed: Vec<String>) -> Text {
+    let barred: HashSet<&String> = held.iter().collect();
+    missed.retain(|word| !barred.contains(word));
+    let rng = &mut Rng::new(11);
+    Text {
+        name,
+        source: filled(|| format!("{} ", rng.pick(&missed))).into_bytes(),
+        words: table::encode(held.iter().map(String::as_str)),
+    }
+}
+
+fn changed(words: &[String], change: fn(&[u8], usize) -> Vec<u8>) -> Vec<String> {
+    let changed = words.iter().enumerate();
+    let changed = changed.map(|(place, word)| change(word.as_bytes(), place));
+    changed
+        .map(|word| String::from_utf8(word).expect("words are ASCII"))
+        .collect()
+}
+
+// The lists hold no letter from D to W.
+fn last_byte_off(word: &[u8], place: usize) -> Vec<u8> {
+    let other = b'D' + (place % 20) as u8;
+    [&word[..word.len() - 1], &[other]].concat()
+}
+
+fn other_case(word: &[u8], _: usize) -> Vec<u8> {
+    let first = match word[0] {
+        b'_' => b'_',
+        letter => letter ^ 0x20,
+    };
+    [&[first], &word[1..]].concat()
+}
+
+// Parts one after another, up to the greatest length.
+fn filled(mut part: impl FnMut() -> String) -> String {
+    let mut out = String::with_capacity(LONGEST);
+    loop {
+        let next = part();
+        if out.len() + next.len() > LONGEST {
+            return out;
+        }
+        out += &next;
+    }
+}
+
+// 20 to 60 letters, each one of `count` from `first` on.
+fn letters(rng: &mut Rng, first: char, count: usize) -> String {
+    let letter = |place| char::from_u32(first as u32 + place as u32).expect("a letter");
+    (0..rng.between(20, 60))
+        .map(|_| letter(rng.below(count)))
+        .collect()
+}
+
+#[cfg(test)]
+mod tests {
+    use super::*;
+    use oracle::{read_lexical, Answer, Call, Case};
+
+    fn is_accepted(text: Text) -> bool {
+        assert!(text.source.len() <= LONGEST + 1, "{}", text.name);
+        assert!(text.source.len() > LONGEST - LONGEST / 50, "{}", text.name);
+        let case = Case::ample(Call::Program, text.source, text.words);
+        matches!(read_lexical(&case).answer, Answer::Accepted { .. })
+    }
+
+    #[test]
+    fn one_text_is_refused() {
+        for name in NAMES {
+            let accepted = is_accepted(text(name).unwrap());
+            assert_eq!(accepted, name != "refused", "{name}");
+        }
+    }
+
+    #[test]
+    fn words_are_all_missed() {
+        for text in word_texts() {
+            let name = text.name;
+            let longest = match name {
+                "short-table" => SHORT,
+                "shorter-table" => SHORTER,
+                _ => MAX_TABLE,
+            };
+            assert!(text.words.len() > longest - longest.min(259), "{name}");
+            assert!(is_accepted(text), "{name}");
+        }
+    }
+}

@@ -1,0 +1,43 @@
+//! The program `bench`: one call and bad usage. What it measures is no matter of tests.
+
+use std::process::Command;
+
+fn code(args: &[&str]) -> Option<i32> {
+    let mut bench = Command::new(env!("CARGO_BIN_EXE_bench"));
+    bench.args(args).output().unwrap().status.code()
+}
+
+#[test]
+fn single_calls() {
+    for side in ["original", "proved-full", "proved-tight", "proved-none"] {
+        assert_eq!(
+            code(&["count", "lexer", "comments", side]),
+            Some(0),
+            "{side}"
+        );
+    }
+    let stopped = [
+        "count",
+        "lexer",
+        "comments",
+        "proved-none",
+        "--stop",
+        "utf8",
+    ];
+    assert_eq!(code(&stopped), Some(0));
+}
+
+#[test]
+fn bad_usage() {
+    let rows: [&[&str]; 6] = [
+        &[],
+        &["parser"],
+        &["lexer", "--rounds", "0"],
+        &["count", "lexer", "typical"],
+        &["count", "lexer", "nothing", "original"],
+        &["count", "lexer", "blanks", "original", "--stop", "here"],
+    ];
+    for args in rows {
+        assert_eq!(code(args), Some(2), "{args:?}");
+    }
+}
