@@ -72,6 +72,19 @@ impl Seen {
             self.nodes[record[0] as usize] += 1;
         }
     }
+
+    // Every answer, call, tree kind and token kind was seen.
+    fn assert_all(&self) {
+        let all = [
+            &self.verdicts[..],
+            &self.calls,
+            &self.nodes[1..],
+            &self.tokens[1..],
+        ];
+        for counts in all {
+            assert!(counts.iter().all(|count| *count > 0), "{counts:?}");
+        }
+    }
 }
 
 #[test]
@@ -84,14 +97,7 @@ fn every_number_and_kind_occurs() {
     println!("calls: {:?}", seen.calls);
     println!("tree kinds from 1: {:?}", &seen.nodes[1..]);
     println!("token kinds from 1: {:?}", &seen.tokens[1..]);
-    for counts in [
-        &seen.verdicts[..],
-        &seen.calls,
-        &seen.nodes[1..],
-        &seen.tokens[1..],
-    ] {
-        assert!(counts.iter().all(|count| *count > 0), "{counts:?}");
-    }
+    seen.assert_all();
 }
 
 #[test]
@@ -114,14 +120,7 @@ fn stored_list_holds_every_number_and_kind() {
         seen.add(&case, &oracle::read(&case));
     }
     seen.verdicts[2] = 1;
-    for counts in [
-        &seen.verdicts[..],
-        &seen.calls,
-        &seen.nodes[1..],
-        &seen.tokens[1..],
-    ] {
-        assert!(counts.iter().all(|count| *count > 0), "{counts:?}");
-    }
+    seen.assert_all();
 }
 
 #[test]
