@@ -1,0 +1,21 @@
+-- `quanta_parser::program::close_import` meets its contract.
+-- Assumes nothing.
+use Rattle.quanta_parser.proofs.Under.{closes-as}
+use borrow.Author.Needs.{needs}
+use Rattle.quanta_parser.proofs.program.close_import.Statement.{statement}
+use Rattle.quanta_parser.proofs.program.close_import.Tie as tie
+
+peek-span-requires : tie.Need-peek-span-requires
+peek-span-requires c κs = search needs
+
+close-requires : tie.Need-close-requires
+close-requires c κs = search needs
+
+same-length : tie.Need-same-length
+same-length c = search needs
+
+returns : tie.Need-returns
+returns c = closes-as (c .before .before .before .before .peek-span .ensures) (c .before .before .close .ensures)
+
+pub close-import-spec : {M : Type 1} → statement M
+close-import-spec = tie.close (tie.spec peek-span-requires close-requires same-length returns)

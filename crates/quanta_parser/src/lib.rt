@@ -1,0 +1,2 @@
+pub mod decl;
+pub mod program;
