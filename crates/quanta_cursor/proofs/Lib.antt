@@ -4,3 +4,6 @@ pub mod Nodes
 pub mod Meeting
 pub mod Doing
 pub mod Lists
+pub mod Under
+pub mod WordLists
+pub mod Listing

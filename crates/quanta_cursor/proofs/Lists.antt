@@ -28,15 +28,12 @@ use Rattle.quanta_cursor.specs.declared.parser.Refusal.{Refusal}
 use Rattle.quanta_cursor.specs.Tokens.{size, kindAt, from, fineAt, tokAt, Closed, Ready}
 use Rattle.quanta_cursor.specs.Tree.{putRec, Laid}
 use Rattle.quanta_cursor.specs.Answers.{Failed, Took, TookAll}
+use Rattle.quanta_cursor.specs.Lists.{grown}
 use Rattle.quanta_cursor.specs.Cursor.{errAt, leafRec}
 use Rattle.quanta_cursor.proofs.Sets.{coarse, fine-in, fine-out, fine-kind, is-one, not-one}
 use Rattle.quanta_cursor.proofs.Places.{from-at, laid-none, laid-glue, laid-word}
 use Rattle.quanta_cursor.proofs.Meeting.{failed-onward}
 use Rattle.quanta_cursor.proofs.Doing.{shows}
-
--- x with these records beside its own
-abbrev pub grown : Acc → Row → Acc
-grown x r = record { row = glue (x .row) r; reach = x .reach; mine = x .mine; sum = x .sum }
 
 glue-glue : (x y z : Row) → glue x (glue y z) ≡ glue (glue x y) z
 glue-glue x y none = refl

@@ -32,10 +32,10 @@ use Rattle.quanta_cursor.proofs.Sets.{is-one}
 use Rattle.quanta_cursor.proofs.Places.{past-as, ready-past, all-few}
 use Rattle.quanta_cursor.proofs.Doing.{picks}
 use Rattle.quanta_cursor.proofs.Lists.{glue-none}
-use Rattle.quanta_type.specs.Arguments.{grown, TookOn}
-use Rattle.quanta_type.proofs.Lists.{on-of, on-failed-of}
-use Rattle.quanta_parser.specs.WordLists.{words, WordList}
-use Rattle.quanta_parser.proofs.Under.{Under, starts, owned, expects, unexpected, worded, worded-in, unworded, listed-in, unlisted, closed-by}
+use Rattle.quanta_cursor.specs.Lists.{grown, TookOn}
+use Rattle.quanta_cursor.proofs.Listing.{on-of, on-failed-of}
+use Rattle.quanta_cursor.specs.Lists.{words, WordList}
+use Rattle.quanta_cursor.proofs.Under.{Under, starts, owned, expects, unexpected, worded, worded-in, unworded, listed-in, unlisted, closed-by}
 
 -- the production r of s at the token i, when k of its parts are read
 abbrev After : {s : Symbol} → Production s → ℕ → List ℕ → List ℕ → ℕ → ℕ → ℕ → Acc → List ℕ → ℕ → List ℕ → ℕ → Type 0

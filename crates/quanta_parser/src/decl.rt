@@ -20,7 +20,7 @@ ghost use Rattle.quanta_token.specs.TokenKind.{code, Asset};
 ghost use Rattle.quanta_grammar.specs.Productions.{name, item, moreNames};
 ghost use Rattle.quanta_cursor.specs.Tokens.{kindAt, Ready};
 ghost use Rattle.quanta_cursor.specs.Answers.{Reads};
-ghost use Rattle.quanta_parser.specs.WordLists.{WordList};
+ghost use Rattle.quanta_cursor.specs.Lists.{WordList};
 
 fn asset_decl(tokens: &[u32], tree: &mut [u32], at: TokenPos, no: RecordNo) -> Parsed
     requires { ⌜ Ready (now tokens) (at .0) (no .0) × (kindAt (now tokens) (at .0) ≡ code Asset) ⌝ }

@@ -26,7 +26,7 @@ ghost use Rattle.quanta_grammar.specs.Productions.{typeName, import, moreImport
 ghost use Rattle.quanta_cursor.specs.Tokens.{size, kindAt, Ready};
 ghost use Rattle.quanta_cursor.specs.Answers.{Reads};
 ghost use Rattle.quanta_cursor.specs.Cursor.{spanAt, Closes};
-ghost use Rattle.quanta_parser.specs.WordLists.{WordList};
+ghost use Rattle.quanta_cursor.specs.Lists.{WordList};
 
 fn import_decl(tokens: &[u32], tree: &mut [u32], at: TokenPos, no: RecordNo) -> Parsed
     requires { ⌜ Ready (now tokens) (at .0) (no .0) × (kindAt (now tokens) (at .0) ≡ code Import) ⌝ }

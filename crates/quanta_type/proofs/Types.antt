@@ -40,8 +40,9 @@ use Rattle.quanta_cursor.proofs.Meeting.{took, failed, relay, word-of, no-word-
 use Rattle.quanta_cursor.proofs.Doing.{Doing, picks, skips, begin, begin-paying, refuses-at, spent-before, eat, eat-fine, lack, bring, fails, last, over, ends}
 use Rattle.quanta_cursor.proofs.Lists.{glue-none}
 use Rattle.quanta_type.specs.Words.{isOf}
-use Rattle.quanta_type.specs.Arguments.{TookOn, arguments}
-use Rattle.quanta_type.proofs.Lists.{list-in, list-fails}
+use Rattle.quanta_cursor.specs.Lists.{TookOn}
+use Rattle.quanta_type.specs.Arguments.{arguments}
+use Rattle.quanta_cursor.proofs.Listing.{list-in, list-fails}
 
 has-one : (k c : ℕ) → T (has (c ∷ []) k) → k ≡ c
 has-one k c t = or-cases (eqb k c) false t (λ z. eqb→eq k c z) (λ z. absurd z)

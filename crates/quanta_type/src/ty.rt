@@ -30,7 +30,8 @@ ghost use Rattle.quanta_grammar.specs.Productions.{type, typeArg};
 ghost use Rattle.quanta_cursor.specs.Tokens.{size, kindAt, from, Ready};
 ghost use Rattle.quanta_cursor.specs.Answers.{Reads};
 ghost use Rattle.quanta_cursor.specs.Cursor.{spanAt, Closes};
-ghost use Rattle.quanta_type.specs.Arguments.{ListsOn, arguments};
+ghost use Rattle.quanta_type.specs.Arguments.{arguments};
+ghost use Rattle.quanta_cursor.specs.Lists.{ListsOn};
 
 pub fn ty(
     src: &[u8],

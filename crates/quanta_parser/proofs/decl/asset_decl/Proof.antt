@@ -4,7 +4,7 @@ use mathlib.Core.List.{[]}
 use Rattle.quanta_token.specs.TokenKind.{code, Asset}
 use Rattle.quanta_cursor.proofs.Places.{ready-small}
 use Rattle.quanta_cursor.proofs.Meeting.{failed}
-use Rattle.quanta_parser.proofs.Under.{closes-as}
+use Rattle.quanta_cursor.proofs.Under.{closes-as}
 use Rattle.quanta_parser.proofs.Items.{keyword-past, asset-bad, asset-ready, asset-met}
 use borrow.Author.Needs.{needs}
 use Rattle.quanta_parser.proofs.decl.asset_decl.Statement.{statement}

@@ -1,6 +1,6 @@
 -- `quanta_parser::program::close_import` meets its contract.
 -- Assumes nothing.
-use Rattle.quanta_parser.proofs.Under.{closes-as}
+use Rattle.quanta_cursor.proofs.Under.{closes-as}
 use borrow.Author.Needs.{needs}
 use Rattle.quanta_parser.proofs.program.close_import.Statement.{statement}
 use Rattle.quanta_parser.proofs.program.close_import.Tie as tie

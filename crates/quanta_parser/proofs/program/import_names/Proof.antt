@@ -8,7 +8,7 @@ use Rattle.quanta_grammar.specs.Productions.{moreImports}
 use Rattle.quanta_cursor.specs.Tokens.{size}
 use Rattle.quanta_cursor.proofs.Places.{ready-small}
 use Rattle.quanta_cursor.proofs.Lists.{Rolling}
-use Rattle.quanta_parser.proofs.WordLists.{imports-law, first-bad, list-begun, list-ends, comma-past, list-bad, list-on, list-less}
+use Rattle.quanta_cursor.proofs.WordLists.{imports-law, first-bad, list-begun, list-ends, comma-past, list-bad, list-on, list-less}
 use Rattle.quanta_parser.proofs.program.import_names.Statement.{statement}
 use Rattle.quanta_parser.proofs.program.import_names.Tie as tie
 

@@ -12,7 +12,7 @@ use Rattle.quanta_cursor.specs.Tokens.{size}
 use Rattle.quanta_cursor.proofs.Places.{past-in, past-as, ready-past, ready-small}
 use Rattle.quanta_cursor.proofs.Meeting.{took, failed, took-of, failed-of, left-of, spent-of}
 use Rattle.quanta_cursor.proofs.Lists.{type-arguments}
-use Rattle.quanta_type.proofs.Lists.{Rolling, on-of, on-failed-of, list-none, list-begun, list-ends, comma-past, list-bad, list-on, list-less}
+use Rattle.quanta_cursor.proofs.Listing.{Rolling, on-of, on-failed-of, list-none, list-begun, list-ends, comma-past, list-bad, list-on, list-less}
 use Rattle.quanta_type.proofs.Types.{is-type-name, no-type-name, type-none, type-plain, type-bad, type-met, arg-deep, arg-in}
 use Prim.Native.Nat.{ℕ, _<_}
 use borrow.Fn.Kinds.{In}

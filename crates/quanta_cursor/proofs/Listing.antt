@@ -17,18 +17,18 @@ use Rattle.quanta_token.specs.TokenKind.{code, Comma}
 use Rattle.quanta_grammar.specs.Productions.{Symbol, grammar}
 use Rattle.quanta_grammar.specs.Reading.{targets, reads}
 use Rattle.quanta_grammar.proofs.Steps.{go}
 use Rattle.quanta_cursor.specs.declared.parser.Node.{Node}
 use Rattle.quanta_cursor.specs.declared.parser.Nodes.{Nodes}
 use Rattle.quanta_cursor.specs.declared.parser.Refusal.{Refusal}
 use Rattle.quanta_cursor.specs.declared.parser.Listed.{Listed}
 use Rattle.quanta_cursor.specs.declared.parser.Listed.the-variants as listed
 use Rattle.quanta_cursor.specs.Tokens.{kindAt, from, Ready}
 use Rattle.quanta_cursor.specs.Answers.{Failed, Took}
 use Rattle.quanta_cursor.proofs.Places.{past-as, ready-past, took-onward, took-ready}
 use Rattle.quanta_cursor.proofs.Meeting.{failed-onward}
 use Rattle.quanta_cursor.proofs.Doing.{Doing}
 use Rattle.quanta_cursor.proofs.Lists.{Commas, Rolls, roll-first, comma-on, comma-bad, comma-stop, took-more}
-use Rattle.quanta_type.specs.Arguments.{TookOn, AnswersOn, ListsOn}
+use Rattle.quanta_cursor.specs.Lists.{TookOn, AnswersOn, ListsOn}
 
 -- an answer that is taken apart
 module _ {o : Outcome} {x : Acc} {src ws t : List ℕ} {n : ℕ} {r : Listed} {t′ : List ℕ} where

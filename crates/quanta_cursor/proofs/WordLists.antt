@@ -17,23 +17,23 @@ use Rattle.quanta_grammar.specs.Reading.{missed, wanted, reads}
 use Rattle.quanta_grammar.specs.Refine.{plainKind, marking}
 use Rattle.quanta_grammar.specs.NodeKind.{nodeCode, name-node}
 use Rattle.quanta_grammar.specs.RefusalKind.{refusalCode, expected-identifier, expected-import-name}
 use Rattle.quanta_cursor.specs.declared.parser.Node.{Node}
 use Rattle.quanta_cursor.specs.declared.parser.Nodes.{Nodes}
 use Rattle.quanta_cursor.specs.declared.parser.Refusal.{Refusal}
 use Rattle.quanta_cursor.specs.declared.parser.Parsed.{Parsed}
 use Rattle.quanta_cursor.specs.declared.parser.Parsed.the-variants as parsed
 use Rattle.quanta_cursor.specs.Tokens.{size, kindAt, from, tokAt, Ready}
 use Rattle.quanta_cursor.specs.Tree.{Laid}
 use Rattle.quanta_cursor.specs.Answers.{Failed}
 use Rattle.quanta_cursor.specs.Cursor.{errAt, leafRec, Words}
 use Rattle.quanta_cursor.proofs.Sets.{coarse, is-one, not-one}
 use Rattle.quanta_cursor.proofs.Places.{past-as, past-in, laid-none, laid-word, ready-past, ready-word}
 use Rattle.quanta_cursor.proofs.Meeting.{failed-as, word-of, no-word-of}
 use Rattle.quanta_cursor.proofs.Doing.{Doing, picks, skips, begin, eat, lack, last, over}
 use Rattle.quanta_cursor.proofs.Lists.{Rolls, Rolling, rolling-in, rolling-on}
-use Rattle.quanta_type.specs.Arguments.{grown, TookOn}
-use Rattle.quanta_parser.specs.WordLists.{words}
-use Rattle.quanta_parser.proofs.Under.{leaves, eat-word}
+use Rattle.quanta_cursor.specs.Lists.{grown, TookOn}
+use Rattle.quanta_cursor.specs.Lists.{words}
+use Rattle.quanta_cursor.proofs.Under.{leaves, eat-word}
 
 -- l goes on behind a comma with a word of the kinds cs, and else ends; such a word leaves the record of a name, and a refusal of this number where it is missing
 pub record Law (cs : List ℕ) (l : Symbol) (number : ℕ) : Type 0 where

@@ -19,25 +19,25 @@ use Rattle.quanta_grammar.specs.Guides.{guide}
 use Rattle.quanta_grammar.specs.Reading.{toll, targets, plan, missed, wanted, reads}
 use Rattle.quanta_grammar.specs.Refine.{plainKind, marking}
 use Rattle.quanta_grammar.proofs.Steps.{go}
 use Rattle.quanta_cursor.specs.declared.parser.TokenPos.{TokenPos}
 use Rattle.quanta_cursor.specs.declared.parser.Span.{Span}
 use Rattle.quanta_cursor.specs.declared.parser.Node.{Node}
 use Rattle.quanta_cursor.specs.declared.parser.Nodes.{Nodes}
 use Rattle.quanta_cursor.specs.declared.parser.Refusal.{Refusal}
 use Rattle.quanta_cursor.specs.declared.parser.Parsed.{Parsed}
 use Rattle.quanta_cursor.specs.declared.parser.Parsed.the-variants as parsed
 use Rattle.quanta_cursor.specs.declared.parser.Expected.{Expected}
 use Rattle.quanta_cursor.specs.declared.parser.Expected.the-variants as expected
 use Rattle.quanta_cursor.specs.Tokens.{size, kindAt, startAt, stopAt, from, fineAt, tokAt, Ready}
 use Rattle.quanta_cursor.specs.Tree.{Laid}
 use Rattle.quanta_cursor.specs.Answers.{single, Failed, Took, Meets}
 use Rattle.quanta_cursor.specs.Cursor.{joined, spanAt, errAt, Expects, leafRec, Words, closeRec, Closes}
 use Rattle.quanta_cursor.proofs.Sets.{coarse, fine-in, is-one, not-one}
 use Rattle.quanta_cursor.proofs.Places.{past-in, past-as, laid-none, laid-glue, laid-word, took-ready, ready-past, ready-word}
 use Rattle.quanta_cursor.proofs.Meeting.{failed-onward, next-of, lacks-of, word-of, no-word-of}
 use Rattle.quanta_cursor.proofs.Doing.{Doing, begin, eat, lack, bring, fails, seal}
-use Rattle.quanta_type.specs.Arguments.{grown, TookOn}
-use Rattle.quanta_parser.specs.WordLists.{words}
+use Rattle.quanta_cursor.specs.Lists.{grown, TookOn}
+use Rattle.quanta_cursor.specs.Lists.{words}
 
 -- o is what comes of these parts from the place p on, on top of x, whose records are written over t from the record n on
 pub record Under (o : Outcome) (src ws : List ℕ) (t₀ : Tok) (ms : List Mark) (is : Items grammar) (a p : ℕ) (x : Acc) (t : List ℕ) (n : ℕ) (tree : List ℕ) (q : ℕ) : Type 0 where
