@@ -1,9 +1,9 @@
 -- Lists in the midst of a production: one element and those behind commas, on top of what is left so far.
 -- Assumes nothing.
 use mathlib.Core.Path.{_≡_, refl, ap, sym, subst, _∙_}
-use mathlib.Core.Bool.{not}
+use mathlib.Core.Bool.{Bool, not}
 use mathlib.Core.List.{List, [], _∷_}
-use Prim.Native.Nat.{ℕ, _+_, _<_, _≤_}
+use Prim.Native.Nat.{ℕ, _+_, _<_, _≤_, zero-le}
 use native.Mathlib.Omega.{arith}
 use lib.Dec.{T}
 use lib.ListN.{length}
@@ -22,12 +22,12 @@ use Rattle.quanta_cursor.specs.declared.parser.Nodes.{Nodes}
 use Rattle.quanta_cursor.specs.declared.parser.Refusal.{Refusal}
 use Rattle.quanta_cursor.specs.declared.parser.Listed.{Listed}
 use Rattle.quanta_cursor.specs.declared.parser.Listed.the-variants as listed
-use Rattle.quanta_cursor.specs.Tokens.{kindAt, from, Ready}
+use Rattle.quanta_cursor.specs.Tokens.{kindAt, fineAt, from, Ready}
 use Rattle.quanta_cursor.specs.Answers.{Failed, Took}
 use Rattle.quanta_cursor.proofs.Places.{past-as, ready-past, took-onward, took-ready}
 use Rattle.quanta_cursor.proofs.Meeting.{failed-onward}
 use Rattle.quanta_cursor.proofs.Doing.{Doing}
-use Rattle.quanta_cursor.proofs.Lists.{Commas, Rolls, roll-first, comma-on, comma-bad, comma-stop, took-more}
+use Rattle.quanta_cursor.proofs.Lists.{Run, Commas, Rolls, roll-in, roll-first, run-on, run-bad, run-stop, comma-on, comma-bad, comma-stop, took-more}
 use Rattle.quanta_cursor.specs.Lists.{TookOn, AnswersOn, ListsOn}
 
 -- an answer that is taken apart
@@ -110,3 +110,42 @@ module _ {l s : Symbol} (law : Commas l s) {src ws : List ℕ} (a : ℕ) {i : �
       -- it goes on
       pub list-less : {m′ : Node} {tree′ : List ℕ} → Took (reads s a (from src ws p′) fresh) src ws tree q m′ tree′ → p < m′ .at .0
       list-less u = let y = took-onward src s a (comma-past .inside) u in omega arith
+
+-- A LIST THAT RUNS as long as the next kind tells so: elements s one after the other
+module _ {l s : Symbol} {goes : ℕ → Bool} (law : Run l s goes) {src ws : List ℕ} (a : ℕ) {i : ℕ} {t : List ℕ} {n : ℕ} (g : Ready ws i n) where
+  pub run-begun : Rolling l src ws a i n 0 t i n 0 t
+  run-begun = rolling-in g zero-le
+
+  module _ {p q c : ℕ} {tree : List ℕ} (v : Rolling l src ws a i n 0 t p q c tree) where
+    run-rolls : (x : Acc) → Rolls l (reads l a (from src ws i) x) src ws t n x a p q c tree
+    run-rolls x = v .carries (reads l a (from src ws i) x) t n x (roll-in x refl)
+
+    -- its end
+    pub runs-out : {r : Nodes} (x : Acc) → (T (goes (fineAt src ws p)) → ⊥) → r .at .0 ≡ p → r .no .0 ≡ q → r .count ≡ c → TookOn (reads l a (from src ws i) x) x src ws t n r tree
+    runs-out x z e f h =
+        record {
+          row = run-rolls x .row;
+          gave = run-stop (run-rolls x) law (v .ready .inside) z ∙ rw e refl;
+          many = h ∙ run-rolls x .many;
+          laid = rw f (run-rolls x .laid);
+          ready = rw (e, f) (v .ready);
+        }
+
+    -- one more element
+    module _ (z : T (goes (fineAt src ws p))) where
+      pub runs-bad : {u : Refusal} (x : Acc) → Failed (reads s a (from src ws p) fresh) u → Failed (reads l a (from src ws i) x) u
+      runs-bad x f = run-bad (run-rolls x) law (v .ready .inside) z f
+
+      module _ {m : Node} {tree′ : List ℕ} (u : Took (reads s a (from src ws p) fresh) src ws tree q m tree′) where
+        pub runs-on : {c′ : ℕ} → c′ ≡ c + 1 → length tree′ ≡ length tree → Rolling l src ws a i n 0 t (m .at .0) (m .no .0) c′ tree′
+        runs-on {c′} f w =
+            let y = took-more u in
+            record {
+              carries = λ o t n x b. run-on (v .carries o t n x b) law (v .ready .inside) z u f;
+              ready = took-ready src s a (v .ready) u;
+              few = omega (arith, v .few);
+              long = w ∙ v .long;
+            }
+
+        pub runs-less : p < m .at .0
+        runs-less = took-onward src s a (v .ready .inside) u .0

@@ -6,7 +6,7 @@ use mathlib.Core.List.{List, [], _∷_}
 use Prim.Native.Nat.{ℕ, _+_, _<_}
 use lib.Dec.{T, eqb, eqb→eq}
 use Rattle.grammar.specs.Grammar.{Tok, Items, one, sub, has, free}
-use Rattle.grammar.specs.Records.{Acc, none, put, nothing, own, word, pass, fold, Reach, apart, widen, span, Mark, fresh, leave, beside, finish, leafKind}
+use Rattle.grammar.specs.Records.{Acc, Row, none, put, Leaf, nothing, own, word, pass, fold, Reach, apart, widen, span, Mark, fresh, leave, beside, finish, leafKind}
 use Rattle.grammar.specs.Reader.{Refusal as Bad, use′, pick, miss}
 use Rattle.grammar.specs.Fused.{Outcome, left, refused}
 use Rattle.grammar.proofs.Fuse.{onward, onward-left}
@@ -30,12 +30,13 @@ use Rattle.quanta_cursor.specs.declared.parser.Expected.{Expected}
 use Rattle.quanta_cursor.specs.declared.parser.Expected.the-variants as expected
 use Rattle.quanta_cursor.specs.Tokens.{size, kindAt, startAt, stopAt, from, fineAt, tokAt, Ready}
 use Rattle.quanta_cursor.specs.Tree.{Laid}
-use Rattle.quanta_cursor.specs.Answers.{single, Failed, Took, Meets}
+use Rattle.quanta_cursor.specs.Answers.{single, Failed, Took, TookAll, Meets}
 use Rattle.quanta_cursor.specs.Cursor.{joined, spanAt, errAt, Expects, leafRec, Words, closeRec, Closes}
 use Rattle.quanta_cursor.proofs.Sets.{coarse, fine-in, is-one, not-one}
-use Rattle.quanta_cursor.proofs.Places.{past-in, past-as, laid-none, laid-glue, laid-word, took-ready, ready-past, ready-word}
+use Rattle.quanta_cursor.proofs.Places.{past-in, past-as, laid-none, laid-glue, laid-word, took-ready, all-ready, ready-past, ready-word}
 use Rattle.quanta_cursor.proofs.Meeting.{failed-onward, next-of, lacks-of, word-of, no-word-of}
-use Rattle.quanta_cursor.proofs.Doing.{Doing, begin, eat, lack, bring, fails, seal}
+use Rattle.quanta_cursor.proofs.Lists.{glue-none}
+use Rattle.quanta_cursor.proofs.Doing.{Doing, begin, eat, lack, bring, fails, fold-in, fold-fails, seal}
 use Rattle.quanta_cursor.specs.Lists.{grown, TookOn}
 use Rattle.quanta_cursor.specs.Lists.{words}
 
@@ -45,10 +46,15 @@ pub record Under (o : Outcome) (src ws : List ℕ) (t₀ : Tok) (ms : List Mark)
   pub laid : Laid t n (x .row) tree q
   pub ready : Ready ws p q
 
--- the first of its parts, where the production costs nothing
+-- the first of its parts, where the production costs nothing: on top of x ..
+pub starts-on : (src ws : List ℕ) (s : Symbol) (r : Production s) (a : ℕ) {i n q : ℕ} {t tree : List ℕ} (x : Acc) → Ready ws i q → Laid t n (x .row) tree q → pick (guide s) (fineAt src ws i) ≡ use′ r → toll s r ≡ free
+    → Under (reads s a (from src ws i) x) src ws (tokAt src ws i) (outs .marks s r) (grammar .parts s r) a i x t n tree q
+starts-on src ws s r a {i} x g l c w = record { doing = begin src ws i (g .inside) s r a x c w; laid = l; ready = g }
+
+-- .. and of nothing
 pub starts : (src ws : List ℕ) (s : Symbol) (r : Production s) (a : ℕ) {i n : ℕ} {t : List ℕ} → Ready ws i n → pick (guide s) (fineAt src ws i) ≡ use′ r → toll s r ≡ free
     → Under (reads s a (from src ws i) fresh) src ws (tokAt src ws i) (outs .marks s r) (grammar .parts s r) a i fresh t n t n
-starts src ws s r a {i} g c w = record { doing = begin src ws i (g .inside) s r a fresh c w; laid = laid-none; ready = g }
+starts src ws s r a g c w = starts-on src ws s r a fresh g laid-none c w
 
 -- every kind of the set leaves a record of the kind k
 abbrev pub leaves : List ℕ → ℕ → Bool
@@ -135,6 +141,27 @@ module _ {o : Outcome} {src ws : List ℕ} {t₀ : Tok} {ms : List Mark} {is : I
 
     pub unlisted : {e : Refusal} → Failed (words c l t₀ a (from src ws p) x) e → Failed o e
     unlisted f = failed-onward (λ z q. go t₀ ms is a q z) (u .doing .so ∙ word-list t₀ ms is c l a (from src ws p) x) f
+
+  -- A PHRASE on top of what is left so far
+  module _ {y : Leaf} {r : Reach} {s : Symbol} (u : Under o src ws t₀ (mark y fold r [] ∷ ms) (sub s ∷ is) a p x t n tree q) where
+    pub folded : {z : Acc} {p′ q′ : ℕ} {tree′ : List ℕ} → reads s a (from src ws p) x ≡ left z (from src ws p′) → Laid t n (z .row) tree′ q′ → Ready ws p′ q′ → Under o src ws t₀ ms is a p′ z t n tree′ q′
+    folded e l g = record { doing = fold-in (u .doing) e; laid = l; ready = g }
+
+    pub unfolded : {e : Refusal} → Failed (reads s a (from src ws p) x) e → Failed o e
+    unfolded f = fold-fails (u .doing) f
+
+  -- A LIST that is read by itself: its records stand beside those so far
+  module _ {l : Symbol} (u : Under o src ws t₀ (mark nothing pass apart [] ∷ ms) (sub l ∷ is) a p x t n tree q) where
+    pub rowed : {m : Nodes} {tree′ : List ℕ} → T (not (targets .minds l)) → (k : TookOn (reads l a (from src ws p) fresh) fresh src ws tree q m tree′) → Under o src ws t₀ ms is a (m .at .0) (grown x (k .row)) t n tree′ (m .no .0)
+    rowed {m} {tree′} h k =
+        subst (λ (w : Row). Under o src ws t₀ ms is a (m .at .0) (grown x w) t n tree′ (m .no .0)) (glue-none (k .row)) (record {
+          doing = bring (u .doing) h (k .gave);
+          laid = laid-glue (u .laid) (subst (λ (w : Row). Laid tree q w tree′ (m .no .0)) (sym (glue-none (k .row))) (k .laid));
+          ready = k .ready;
+        })
+
+    pub alled : {m : Nodes} {tree′ : List ℕ} → T (not (targets .minds l)) → (k : TookAll (reads l a (from src ws p) fresh) src ws tree q m tree′) → Under o src ws t₀ ms is a (m .at .0) (grown x (k .acc .row)) t n tree′ (m .no .0)
+    alled h k = record { doing = bring (u .doing) h (k .gave); laid = laid-glue (u .laid) (k .laid); ready = all-ready src l a (u .ready) k }
 
 -- A CLOSING TOKEN, and the record of all so far
 pub closed-by : {o : Outcome} {src ws : List ℕ} {t₀ : Tok} {m : Mark} {a p : ℕ} {x : Acc} {t : List ℕ} {n : ℕ} {tree : List ℕ} {q kind flag own count : ℕ} {t′ : List ℕ} {r : Parsed} (s : Span) (want : ℕ) → T (coarse (want ∷ [])) → (T (eqb want (code Eof)) → ⊥)
