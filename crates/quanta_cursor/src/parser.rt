@@ -8,7 +8,7 @@ use quanta_token::token;
 ghost use mathlib.Core.Path.{_≡_};
 ghost use mathlib.Core.List.{[], _∷_};
 ghost use Prim.Native.Nat.{_+_, _-_, _<_, min, max};
-ghost use Rattle.quanta_token.specs.TokenKind.{codes, Int, Str};
+ghost use Rattle.quanta_token.specs.TokenKind.{code, codes, Int, Str, Semi};
 ghost use Rattle.quanta_grammar.specs.Productions.{name, typeName};
 ghost use Rattle.quanta_grammar.specs.NodeKind.{nodeCode, name-node, int-node, str-node};
 ghost use Rattle.quanta_grammar.specs.RefusalKind.{refusalCode, expected-identifier, expected-integer, expected-import-name, expected-string};
@@ -298,4 +298,22 @@ pub fn close(
             })
         }
     }
+}
+
+// The `;` at the end of a phrase.
+pub fn close_semi(
+    tokens: &[u32],
+    tree: &mut [u32],
+    at: TokenPos,
+    no: RecordNo,
+    kind: u32,
+    flag: u32,
+    own: TokenPos,
+    span: Span,
+    children: u32,
+) -> Parsed
+    requires { ⌜ Ready (now tokens) (at .0) (no .0) × (own .0 < 4294967296) ⌝ }
+    ensures { λ r. ⌜ Closes (now (tokens .entry)) (now (tree .entry)) (code Semi) (at .0) (no .0) kind flag (own .0) span children r (now (tree .exit)) ⌝ }
+{
+    close(tokens, tree, token::SEMI, at, no, kind, flag, own, span, children)
 }

@@ -9,7 +9,7 @@ use quanta_cursor::parser::RecordNo;
 use quanta_cursor::parser::Refusal;
 use quanta_cursor::parser::TokenPos;
 use quanta_cursor::parser::bump;
-use quanta_cursor::parser::close;
+use quanta_cursor::parser::close_semi;
 use quanta_cursor::parser::expect;
 use quanta_cursor::parser::expect_ident;
 use quanta_cursor::parser::peek;
@@ -72,18 +72,7 @@ fn guard_stmt(
             let semi = value.at;
             let no = value.no;
             let span = peek_span(tokens, at);
-            close(
-                tokens,
-                tree,
-                token::SEMI,
-                semi,
-                no,
-                node::GUARD,
-                0,
-                at,
-                span,
-                1,
-            )
+            close_semi(tokens, tree, semi, no, node::GUARD, 0, at, span, 1)
         }
     }
 }
@@ -111,18 +100,7 @@ fn let_stmt(
                         let semi = value.at;
                         let no = value.no;
                         let span = peek_span(tokens, at);
-                        close(
-                            tokens,
-                            tree,
-                            token::SEMI,
-                            semi,
-                            no,
-                            node::LET,
-                            0,
-                            at,
-                            span,
-                            2,
-                        )
+                        close_semi(tokens, tree, semi, no, node::LET, 0, at, span, 2)
                     }
                 },
             }
@@ -157,18 +135,7 @@ fn emit_stmt(
                             Expected::Next(semi) => {
                                 let span = peek_span(tokens, at);
                                 let children = args.count + 1;
-                                close(
-                                    tokens,
-                                    tree,
-                                    token::SEMI,
-                                    semi,
-                                    no,
-                                    node::EMIT,
-                                    0,
-                                    at,
-                                    span,
-                                    children,
-                                )
+                                close_semi(tokens, tree, semi, no, node::EMIT, 0, at, span, children)
                             }
                         }
                     }
@@ -196,18 +163,7 @@ fn assign_or_expr_stmt(
             let span = target.span;
             let op = assign_op(peek(tokens, own));
             if op == op::NO_OP {
-                return close(
-                    tokens,
-                    tree,
-                    token::SEMI,
-                    own,
-                    no,
-                    node::EXPR,
-                    0,
-                    own,
-                    span,
-                    1,
-                );
+                return close_semi(tokens, tree, own, no, node::EXPR, 0, own, span, 1);
             }
             if !is_lvalue(target.kind) {
                 return Parsed::Refused(Refusal {
@@ -222,18 +178,7 @@ fn assign_or_expr_stmt(
                 Parsed::Node(value) => {
                     let end = value.at;
                     let no = value.no;
-                    close(
-                        tokens,
-                        tree,
-                        token::SEMI,
-                        end,
-                        no,
-                        node::ASSIGN,
-                        op,
-                        own,
-                        span,
-                        2,
-                    )
+                    close_semi(tokens, tree, end, no, node::ASSIGN, op, own, span, 2)
                 }
             }
         }

@@ -27,14 +27,14 @@ peek-requires c κs = (took-ready [] expr (c .before .before .before .before .be
 assign-op-requires : tie.Need-assign-op-requires
 assign-op-requires c κs = search needs
 
-close-requires : tie.Need-close-requires
-close-requires c κs = ((took-ready [] expr (c .before .before .before .before .before .before .before .before .before .before .before .before .before .before .before .before .args .allowance) (c .before .before .before .before .before .before .before .before .before .before .before .before .before .before .before .before .pre .0) (took-of (c .before .before .before .before .before .before .before .before .target .given .1) (c .before .before .before .before .before .before .before .before .before .before .before .before .expr .ensures []))), ready-small (took-ready [] expr (c .before .before .before .before .before .before .before .before .before .before .before .before .before .before .before .before .args .allowance) (c .before .before .before .before .before .before .before .before .before .before .before .before .before .before .before .before .pre .0) (took-of (c .before .before .before .before .before .before .before .before .target .given .1) (c .before .before .before .before .before .before .before .before .before .before .before .before .expr .ensures []))))
+close-semi-requires : tie.Need-close-semi-requires
+close-semi-requires c κs = ((took-ready [] expr (c .before .before .before .before .before .before .before .before .before .before .before .before .before .before .before .before .args .allowance) (c .before .before .before .before .before .before .before .before .before .before .before .before .before .before .before .before .pre .0) (took-of (c .before .before .before .before .before .before .before .before .target .given .1) (c .before .before .before .before .before .before .before .before .before .before .before .before .expr .ensures []))), ready-small (took-ready [] expr (c .before .before .before .before .before .before .before .before .before .before .before .before .before .before .before .before .args .allowance) (c .before .before .before .before .before .before .before .before .before .before .before .before .before .before .before .before .pre .0) (took-of (c .before .before .before .before .before .before .before .before .target .given .1) (c .before .before .before .before .before .before .before .before .before .before .before .before .expr .ensures []))))
 
 same-length : tie.Need-same-length
 same-length c = search needs
 
 returns : tie.Need-returns
-returns c = λ src. expr-met src (c .before .before .before .before .before .before .before .before .before .before .before .before .before .before .before .before .before .before .before .args .tokens .now) (c .before .before .before .before .before .before .before .before .before .before .before .before .before .before .before .before .before .before .before .args .at .0) (c .before .before .before .before .before .before .before .before .before .before .before .before .before .before .before .before .before .before .before .args .allowance) (c .before .before .before .before .before .before .before .before .before .before .before .before .before .before .before .before .before .before .before .pre .0 .inside) (c .before .before .before .before .before .before .before .before .before .before .before .before .before .before .before .before .before .before .before .pre .1) (took-of (c .before .before .before .before .before .before .before .before .before .before .before .target .given .1) (c .before .before .before .before .before .before .before .before .before .before .before .before .before .before .before .expr .ensures src)) (took-ready [] expr (c .before .before .before .before .before .before .before .before .before .before .before .before .before .before .before .before .before .before .before .args .allowance) (c .before .before .before .before .before .before .before .before .before .before .before .before .before .before .before .before .before .before .before .pre .0) (took-of (c .before .before .before .before .before .before .before .before .before .before .before .target .given .1) (c .before .before .before .before .before .before .before .before .before .before .before .before .before .before .before .expr .ensures []))) (unflagged-at assigns assign-node (c .before .before .before .before .before .before .peek .ensures) (c .before .before .before .before .before .assign-op .ensures) (c .before .before .before .before .if1 .taken)) (c .before .before .close .ensures)
+returns c = λ src. expr-met src (c .before .before .before .before .before .before .before .before .before .before .before .before .before .before .before .before .before .before .before .args .tokens .now) (c .before .before .before .before .before .before .before .before .before .before .before .before .before .before .before .before .before .before .before .args .at .0) (c .before .before .before .before .before .before .before .before .before .before .before .before .before .before .before .before .before .before .before .args .allowance) (c .before .before .before .before .before .before .before .before .before .before .before .before .before .before .before .before .before .before .before .pre .0 .inside) (c .before .before .before .before .before .before .before .before .before .before .before .before .before .before .before .before .before .before .before .pre .1) (took-of (c .before .before .before .before .before .before .before .before .before .before .before .target .given .1) (c .before .before .before .before .before .before .before .before .before .before .before .before .before .before .before .expr .ensures src)) (took-ready [] expr (c .before .before .before .before .before .before .before .before .before .before .before .before .before .before .before .before .before .before .before .args .allowance) (c .before .before .before .before .before .before .before .before .before .before .before .before .before .before .before .before .before .before .before .pre .0) (took-of (c .before .before .before .before .before .before .before .before .before .before .before .target .given .1) (c .before .before .before .before .before .before .before .before .before .before .before .before .before .before .before .expr .ensures []))) (unflagged-at assigns assign-node (c .before .before .before .before .before .before .peek .ensures) (c .before .before .before .before .before .assign-op .ensures) (c .before .before .before .before .if1 .taken)) (c .before .before .close-semi .ensures)
 
 is-lvalue-requires : tie.Need-is-lvalue-requires
 is-lvalue-requires c κs = search needs
@@ -57,8 +57,8 @@ enum-known-e-2 c = search needs
 enum-known-value : tie.Need-enum-known-value
 enum-known-value c = search needs
 
-close-requires-2 : tie.Need-close-requires-2
-close-requires-2 c κs = (took-ready [] expr (c .before .before .before .before .before .before .before .before .before .before .before .before .before .before .before .before .before .before .before .before .before .before .before .before .before .before .before .before .args .allowance) (assign-ready (took-ready [] expr (c .before .before .before .before .before .before .before .before .before .before .before .before .before .before .before .before .before .before .before .before .before .before .before .before .before .before .before .before .args .allowance) (c .before .before .before .before .before .before .before .before .before .before .before .before .before .before .before .before .before .before .before .before .before .before .before .before .before .before .before .before .pre .0) (took-of (c .before .before .before .before .before .before .before .before .before .before .before .before .before .before .before .before .before .before .before .before .target .given .1) (c .before .before .before .before .before .before .before .before .before .before .before .before .before .before .before .before .before .before .before .before .before .before .before .before .expr .ensures []))) ((flagged-at assigns assign-node (c .before .before .before .before .before .before .before .before .before .before .before .before .before .before .before .peek .ensures) (c .before .before .before .before .before .before .before .before .before .before .before .before .before .before .assign-op .ensures) (c .before .before .before .before .before .before .before .before .before .before .before .before .before .if1 .left)) .0) (c .before .before .before .before .before .before .before .before .before .bump .ensures)) (took-of (c .before .before .before .before .value .given .1) (c .before .before .before .before .before .before .before .before .expr2 .ensures [])), ready-small (took-ready [] expr (c .before .before .before .before .before .before .before .before .before .before .before .before .before .before .before .before .before .before .before .before .before .before .before .before .before .before .before .before .args .allowance) (c .before .before .before .before .before .before .before .before .before .before .before .before .before .before .before .before .before .before .before .before .before .before .before .before .before .before .before .before .pre .0) (took-of (c .before .before .before .before .before .before .before .before .before .before .before .before .before .before .before .before .before .before .before .before .target .given .1) (c .before .before .before .before .before .before .before .before .before .before .before .before .before .before .before .before .before .before .before .before .before .before .before .before .expr .ensures []))))
+close-semi-requires-2 : tie.Need-close-semi-requires-2
+close-semi-requires-2 c κs = (took-ready [] expr (c .before .before .before .before .before .before .before .before .before .before .before .before .before .before .before .before .before .before .before .before .before .before .before .before .before .before .before .before .args .allowance) (assign-ready (took-ready [] expr (c .before .before .before .before .before .before .before .before .before .before .before .before .before .before .before .before .before .before .before .before .before .before .before .before .before .before .before .before .args .allowance) (c .before .before .before .before .before .before .before .before .before .before .before .before .before .before .before .before .before .before .before .before .before .before .before .before .before .before .before .before .pre .0) (took-of (c .before .before .before .before .before .before .before .before .before .before .before .before .before .before .before .before .before .before .before .before .target .given .1) (c .before .before .before .before .before .before .before .before .before .before .before .before .before .before .before .before .before .before .before .before .before .before .before .before .expr .ensures []))) ((flagged-at assigns assign-node (c .before .before .before .before .before .before .before .before .before .before .before .before .before .before .before .peek .ensures) (c .before .before .before .before .before .before .before .before .before .before .before .before .before .before .assign-op .ensures) (c .before .before .before .before .before .before .before .before .before .before .before .before .before .if1 .left)) .0) (c .before .before .before .before .before .before .before .before .before .bump .ensures)) (took-of (c .before .before .before .before .value .given .1) (c .before .before .before .before .before .before .before .before .expr2 .ensures [])), ready-small (took-ready [] expr (c .before .before .before .before .before .before .before .before .before .before .before .before .before .before .before .before .before .before .before .before .before .before .before .before .before .before .before .before .args .allowance) (c .before .before .before .before .before .before .before .before .before .before .before .before .before .before .before .before .before .before .before .before .before .before .before .before .before .before .before .before .pre .0) (took-of (c .before .before .before .before .before .before .before .before .before .before .before .before .before .before .before .before .before .before .before .before .target .given .1) (c .before .before .before .before .before .before .before .before .before .before .before .before .before .before .before .before .before .before .before .before .before .before .before .before .expr .ensures []))))
 
 same-length-3 : tie.Need-same-length-3
 same-length-3 c = search needs
@@ -73,10 +73,10 @@ returns-4 : tie.Need-returns-4
 returns-4 c = λ src. failed (assign-bad src (c .before .before .before .before .before .before .before .before .before .before .before .before .before .before .before .before .before .before .before .before .before .before .before .before .before .args .tokens .now) (c .before .before .before .before .before .before .before .before .before .before .before .before .before .before .before .before .before .before .before .before .before .before .before .before .before .args .at .0) (c .before .before .before .before .before .before .before .before .before .before .before .before .before .before .before .before .before .before .before .before .before .before .before .before .before .args .allowance) (c .before .before .before .before .before .before .before .before .before .before .before .before .before .before .before .before .before .before .before .before .before .before .before .before .before .pre .0 .inside) (c .before .before .before .before .before .before .before .before .before .before .before .before .before .before .before .before .before .before .before .before .before .before .before .before .before .pre .1) (took-of (c .before .before .before .before .before .before .before .before .before .before .before .before .before .before .before .before .before .target .given .1) (c .before .before .before .before .before .before .before .before .before .before .before .before .before .before .before .before .before .before .before .before .before .expr .ensures src)) (flagged-at assigns assign-node (c .before .before .before .before .before .before .before .before .before .before .before .before .peek .ensures) (c .before .before .before .before .before .before .before .before .before .before .before .assign-op .ensures) (c .before .before .before .before .before .before .before .before .before .before .if1 .left)) (c .before .before .before .before .before .before .before .before .before .is-lvalue .ensures) (c .before .before .before .before .before .before .before .before .if2 .left) (c .before .before .before .before .before .before .bump .ensures) (failed-of (c .before .e2 .given .1) (c .before .before .before .before .before .expr2 .ensures src)))
 
 same-length-5 : tie.Need-same-length-5
-same-length-5 c = c .before .before .close2 .kept .1 .0 ∙ c .before .before .before .before .before .before .before .before .before .before .before .expr2 .kept .1 .0 ∙ c .before .before .before .before .before .before .before .before .before .before .before .before .before .before .before .before .before .before .before .before .before .before .before .before .before .before .before .expr .kept .1 .0
+same-length-5 c = c .before .before .close-semi2 .kept .1 .0 ∙ c .before .before .before .before .before .before .before .before .before .before .before .expr2 .kept .1 .0 ∙ c .before .before .before .before .before .before .before .before .before .before .before .before .before .before .before .before .before .before .before .before .before .before .before .before .before .before .before .expr .kept .1 .0
 
 returns-5 : tie.Need-returns-5
-returns-5 c = λ src. assign-met src (c .before .before .before .before .before .before .before .before .before .before .before .before .before .before .before .before .before .before .before .before .before .before .before .before .before .before .before .before .before .before .before .args .tokens .now) (c .before .before .before .before .before .before .before .before .before .before .before .before .before .before .before .before .before .before .before .before .before .before .before .before .before .before .before .before .before .before .before .args .at .0) (c .before .before .before .before .before .before .before .before .before .before .before .before .before .before .before .before .before .before .before .before .before .before .before .before .before .before .before .before .before .before .before .args .allowance) (c .before .before .before .before .before .before .before .before .before .before .before .before .before .before .before .before .before .before .before .before .before .before .before .before .before .before .before .before .before .before .before .pre .0 .inside) (c .before .before .before .before .before .before .before .before .before .before .before .before .before .before .before .before .before .before .before .before .before .before .before .before .before .before .before .before .before .before .before .pre .1) (took-of (c .before .before .before .before .before .before .before .before .before .before .before .before .before .before .before .before .before .before .before .before .before .before .before .target .given .1) (c .before .before .before .before .before .before .before .before .before .before .before .before .before .before .before .before .before .before .before .before .before .before .before .before .before .before .before .expr .ensures src)) (flagged-at assigns assign-node (c .before .before .before .before .before .before .before .before .before .before .before .before .before .before .before .before .before .before .peek .ensures) (c .before .before .before .before .before .before .before .before .before .before .before .before .before .before .before .before .before .assign-op .ensures) (c .before .before .before .before .before .before .before .before .before .before .before .before .before .before .before .before .if1 .left)) (c .before .before .before .before .before .before .before .before .before .before .before .before .before .before .before .is-lvalue .ensures) (c .before .before .before .before .before .before .before .before .before .before .before .before .before .before .if2 .left) (c .before .before .before .before .before .before .before .before .before .before .before .before .bump .ensures) (took-of (c .before .before .before .before .before .before .before .value .given .1) (c .before .before .before .before .before .before .before .before .before .before .before .expr2 .ensures src)) (took-ready [] expr (c .before .before .before .before .before .before .before .before .before .before .before .before .before .before .before .before .before .before .before .before .before .before .before .before .before .before .before .before .before .before .before .args .allowance) (assign-ready (took-ready [] expr (c .before .before .before .before .before .before .before .before .before .before .before .before .before .before .before .before .before .before .before .before .before .before .before .before .before .before .before .before .before .before .before .args .allowance) (c .before .before .before .before .before .before .before .before .before .before .before .before .before .before .before .before .before .before .before .before .before .before .before .before .before .before .before .before .before .before .before .pre .0) (took-of (c .before .before .before .before .before .before .before .before .before .before .before .before .before .before .before .before .before .before .before .before .before .before .before .target .given .1) (c .before .before .before .before .before .before .before .before .before .before .before .before .before .before .before .before .before .before .before .before .before .before .before .before .before .before .before .expr .ensures []))) ((flagged-at assigns assign-node (c .before .before .before .before .before .before .before .before .before .before .before .before .before .before .before .before .before .before .peek .ensures) (c .before .before .before .before .before .before .before .before .before .before .before .before .before .before .before .before .before .assign-op .ensures) (c .before .before .before .before .before .before .before .before .before .before .before .before .before .before .before .before .if1 .left)) .0) (c .before .before .before .before .before .before .before .before .before .before .before .before .bump .ensures)) (took-of (c .before .before .before .before .before .before .before .value .given .1) (c .before .before .before .before .before .before .before .before .before .before .before .expr2 .ensures []))) (c .before .before .close2 .ensures)
+returns-5 c = λ src. assign-met src (c .before .before .before .before .before .before .before .before .before .before .before .before .before .before .before .before .before .before .before .before .before .before .before .before .before .before .before .before .before .before .before .args .tokens .now) (c .before .before .before .before .before .before .before .before .before .before .before .before .before .before .before .before .before .before .before .before .before .before .before .before .before .before .before .before .before .before .before .args .at .0) (c .before .before .before .before .before .before .before .before .before .before .before .before .before .before .before .before .before .before .before .before .before .before .before .before .before .before .before .before .before .before .before .args .allowance) (c .before .before .before .before .before .before .before .before .before .before .before .before .before .before .before .before .before .before .before .before .before .before .before .before .before .before .before .before .before .before .before .pre .0 .inside) (c .before .before .before .before .before .before .before .before .before .before .before .before .before .before .before .before .before .before .before .before .before .before .before .before .before .before .before .before .before .before .before .pre .1) (took-of (c .before .before .before .before .before .before .before .before .before .before .before .before .before .before .before .before .before .before .before .before .before .before .before .target .given .1) (c .before .before .before .before .before .before .before .before .before .before .before .before .before .before .before .before .before .before .before .before .before .before .before .before .before .before .before .expr .ensures src)) (flagged-at assigns assign-node (c .before .before .before .before .before .before .before .before .before .before .before .before .before .before .before .before .before .before .peek .ensures) (c .before .before .before .before .before .before .before .before .before .before .before .before .before .before .before .before .before .assign-op .ensures) (c .before .before .before .before .before .before .before .before .before .before .before .before .before .before .before .before .if1 .left)) (c .before .before .before .before .before .before .before .before .before .before .before .before .before .before .before .is-lvalue .ensures) (c .before .before .before .before .before .before .before .before .before .before .before .before .before .before .if2 .left) (c .before .before .before .before .before .before .before .before .before .before .before .before .bump .ensures) (took-of (c .before .before .before .before .before .before .before .value .given .1) (c .before .before .before .before .before .before .before .before .before .before .before .expr2 .ensures src)) (took-ready [] expr (c .before .before .before .before .before .before .before .before .before .before .before .before .before .before .before .before .before .before .before .before .before .before .before .before .before .before .before .before .before .before .before .args .allowance) (assign-ready (took-ready [] expr (c .before .before .before .before .before .before .before .before .before .before .before .before .before .before .before .before .before .before .before .before .before .before .before .before .before .before .before .before .before .before .before .args .allowance) (c .before .before .before .before .before .before .before .before .before .before .before .before .before .before .before .before .before .before .before .before .before .before .before .before .before .before .before .before .before .before .before .pre .0) (took-of (c .before .before .before .before .before .before .before .before .before .before .before .before .before .before .before .before .before .before .before .before .before .before .before .target .given .1) (c .before .before .before .before .before .before .before .before .before .before .before .before .before .before .before .before .before .before .before .before .before .before .before .before .before .before .before .expr .ensures []))) ((flagged-at assigns assign-node (c .before .before .before .before .before .before .before .before .before .before .before .before .before .before .before .before .before .before .peek .ensures) (c .before .before .before .before .before .before .before .before .before .before .before .before .before .before .before .before .before .assign-op .ensures) (c .before .before .before .before .before .before .before .before .before .before .before .before .before .before .before .before .if1 .left)) .0) (c .before .before .before .before .before .before .before .before .before .before .before .before .bump .ensures)) (took-of (c .before .before .before .before .before .before .before .value .given .1) (c .before .before .before .before .before .before .before .before .before .before .before .expr2 .ensures []))) (c .before .before .close-semi2 .ensures)
 
 pub assign-or-expr-stmt-spec : {M : Type 1} → statement M
 assign-or-expr-stmt-spec =
@@ -87,7 +87,7 @@ assign-or-expr-stmt-spec =
     enum-known-target
     peek-requires
     assign-op-requires
-    close-requires
+    close-semi-requires
     same-length
     returns
     is-lvalue-requires
@@ -97,7 +97,7 @@ assign-or-expr-stmt-spec =
     expr-requires-2
     enum-known-e-2
     enum-known-value
-    close-requires-2
+    close-semi-requires-2
     same-length-3
     returns-3
     same-length-4

@@ -25,8 +25,8 @@ enum-known-value c = search needs
 peek-span-requires : tie.Need-peek-span-requires
 peek-span-requires c κs = search needs
 
-close-requires : tie.Need-close-requires
-close-requires c κs = (took-ready [] expr (c .before .before .before .before .before .before .before .before .before .before .before .before .before .before .args .allowance) (ready-past (c .before .before .before .before .before .before .before .before .before .before .before .before .before .before .pre .0) (past-as (code Guard) (λ u. u) (c .before .before .before .before .before .before .before .before .before .before .before .before .before .before .pre .0 .closed) (c .before .before .before .before .before .before .before .before .before .before .before .before .before .before .pre .0 .inside) (c .before .before .before .before .before .before .before .before .before .before .before .before .before .before .pre .1)) (c .before .before .before .before .before .before .before .before .before .before .bump .ensures)) (took-of (c .before .before .before .before .before .value .given .1) (c .before .before .before .before .before .before .before .before .before .expr .ensures [])), ready-small (c .before .before .before .before .before .before .before .before .before .before .before .before .before .before .pre .0))
+close-semi-requires : tie.Need-close-semi-requires
+close-semi-requires c κs = (took-ready [] expr (c .before .before .before .before .before .before .before .before .before .before .before .before .before .before .args .allowance) (ready-past (c .before .before .before .before .before .before .before .before .before .before .before .before .before .before .pre .0) (past-as (code Guard) (λ u. u) (c .before .before .before .before .before .before .before .before .before .before .before .before .before .before .pre .0 .closed) (c .before .before .before .before .before .before .before .before .before .before .before .before .before .before .pre .0 .inside) (c .before .before .before .before .before .before .before .before .before .before .before .before .before .before .pre .1)) (c .before .before .before .before .before .before .before .before .before .before .bump .ensures)) (took-of (c .before .before .before .before .before .value .given .1) (c .before .before .before .before .before .before .before .before .before .expr .ensures [])), ready-small (c .before .before .before .before .before .before .before .before .before .before .before .before .before .before .pre .0))
 
 same-length : tie.Need-same-length
 same-length c = search needs
@@ -38,7 +38,7 @@ same-length-2 : tie.Need-same-length-2
 same-length-2 c = search needs
 
 returns-2 : tie.Need-returns-2
-returns-2 c = λ src. guard-met src (c .before .before .before .before .before .before .before .before .before .before .before .before .before .before .before .before .before .args .tokens .now) (c .before .before .before .before .before .before .before .before .before .before .before .before .before .before .before .before .before .args .at .0) (c .before .before .before .before .before .before .before .before .before .before .before .before .before .before .before .before .before .args .allowance) (c .before .before .before .before .before .before .before .before .before .before .before .before .before .before .before .before .before .pre .0 .inside) (c .before .before .before .before .before .before .before .before .before .before .before .before .before .bump .ensures) (c .before .before .before .before .before .before .before .before .before .before .before .before .before .before .before .before .before .pre .1) _ (ready-past (c .before .before .before .before .before .before .before .before .before .before .before .before .before .before .before .before .before .pre .0) (past-as (code Guard) (λ u. u) (c .before .before .before .before .before .before .before .before .before .before .before .before .before .before .before .before .before .pre .0 .closed) (c .before .before .before .before .before .before .before .before .before .before .before .before .before .before .before .before .before .pre .0 .inside) (c .before .before .before .before .before .before .before .before .before .before .before .before .before .before .before .before .before .pre .1)) (c .before .before .before .before .before .before .before .before .before .before .before .before .before .bump .ensures)) (took-of (c .before .before .before .before .before .before .before .before .value .given .1) (c .before .before .before .before .before .before .before .before .before .before .before .before .expr .ensures src)) (c .before .before .before .before .peek-span .ensures) (c .before .before .close .ensures)
+returns-2 c = λ src. guard-met src (c .before .before .before .before .before .before .before .before .before .before .before .before .before .before .before .before .before .args .tokens .now) (c .before .before .before .before .before .before .before .before .before .before .before .before .before .before .before .before .before .args .at .0) (c .before .before .before .before .before .before .before .before .before .before .before .before .before .before .before .before .before .args .allowance) (c .before .before .before .before .before .before .before .before .before .before .before .before .before .before .before .before .before .pre .0 .inside) (c .before .before .before .before .before .before .before .before .before .before .before .before .before .bump .ensures) (c .before .before .before .before .before .before .before .before .before .before .before .before .before .before .before .before .before .pre .1) _ (ready-past (c .before .before .before .before .before .before .before .before .before .before .before .before .before .before .before .before .before .pre .0) (past-as (code Guard) (λ u. u) (c .before .before .before .before .before .before .before .before .before .before .before .before .before .before .before .before .before .pre .0 .closed) (c .before .before .before .before .before .before .before .before .before .before .before .before .before .before .before .before .before .pre .0 .inside) (c .before .before .before .before .before .before .before .before .before .before .before .before .before .before .before .before .before .pre .1)) (c .before .before .before .before .before .before .before .before .before .before .before .before .before .bump .ensures)) (took-of (c .before .before .before .before .before .before .before .before .value .given .1) (c .before .before .before .before .before .before .before .before .before .before .before .before .expr .ensures src)) (c .before .before .before .before .peek-span .ensures) (c .before .before .close-semi .ensures)
 
 pub guard-stmt-spec : {M : Type 1} → statement M
 guard-stmt-spec =
@@ -49,7 +49,7 @@ guard-stmt-spec =
     enum-known-e
     enum-known-value
     peek-span-requires
-    close-requires
+    close-semi-requires
     same-length
     returns
     same-length-2
