@@ -1,6 +1,7 @@
 #!/usr/bin/env python3
 # fill.py CRATE GEN: makes the proof files of a crate. For each function with a table of answers in tools/CRATE.py it takes the skeleton
-# that the check printed (kept under target/raw/CRATE), puts the answers in, and expands @place to the path `c .before .. .place`.
+# that the check printed (kept under target/raw/CRATE), puts the answers in, and expands @place to the path `c .before .. .place`,
+# and @^place to the record that has it. Lemmas at a place (`at`, by the place's record) stand before the answers.
 import re,sys,os,json
 crate,gen=sys.argv[1],sys.argv[2]
 root=os.path.dirname(os.path.dirname(os.path.abspath(__file__)))
@@ -34,10 +35,10 @@ def chain(recs,r):
         r=nxt; k+=1
 def expand(text,places,where):
     def rep(m):
-        n=m.group(1)
+        n=m.group(2)
         if n not in places: print(f'{where}: no place @{n}; there are {" ".join(places)}'); return 'c .MISSING'
-        return 'c'+' .before'*places[n]+' .'+n
-    return re.sub(r'@([\w-]+)',rep,text)
+        return 'c'+' .before'*places[n]+('' if m.group(1) else ' .'+n)
+    return re.sub(r'@(\^?)([\w-]+)',rep,text)
 def main():
     sys.path.insert(0,root+'/tools')
     table=__import__(crate).TABLE
@@ -65,6 +66,8 @@ def main():
         for k,v in t.get('inv',{}).items():
             s=re.sub(r'(?m)^(%s .*)= \?$'%re.escape(k),lambda m:m.group(1)+'= '+v,s)
         for l in left: print(fn,'left',l)
+        for r,text in t.get('at',{}).items():
+            s=re.sub(r'(?m)^(\S+ : tie\.Need-)',lambda m:expand(text,chain(recs,r),fn+' '+r)+'\n\n'+m.group(1),s,count=1)
         head='-- '+t['says']+'\n-- Assumes nothing.\n'+''.join('use '+u+'\n' for u in t.get('uses',[]))
         os.makedirs(f'{base}/{fn}',exist_ok=True)
         open(f'{base}/{fn}/Proof.antt','w').write(head+s)

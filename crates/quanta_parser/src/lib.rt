@@ -1,2 +1,2 @@
-pub mod decl;
 pub mod program;
+pub mod whole;

@@ -8,25 +8,108 @@ use quanta_cursor::parser::Node;
 use quanta_cursor::parser::Nodes;
 use quanta_cursor::parser::Parsed;
 use quanta_cursor::parser::RecordNo;
+use quanta_cursor::parser::Refusal;
+use quanta_cursor::parser::Span;
 use quanta_cursor::parser::TokenPos;
 use quanta_cursor::parser::bump;
 use quanta_cursor::parser::close;
 use quanta_cursor::parser::expect;
+use quanta_cursor::parser::expect_ident;
 use quanta_cursor::parser::expect_import_name;
 use quanta_cursor::parser::expect_str;
 use quanta_cursor::parser::peek;
 use quanta_cursor::parser::peek_span;
+use quanta_item::decl::contract_item;
 use quanta_token::token;
 ghost use mathlib.Core.Path.{_≡_};
 ghost use mathlib.Core.List.{List};
-ghost use Prim.Native.Nat.{ℕ, _<_};
-ghost use Rattle.quanta_token.specs.TokenKind.{code, Import, Semi};
-ghost use Rattle.quanta_grammar.specs.NodeKind.{nodeCode, import-node};
-ghost use Rattle.quanta_grammar.specs.Productions.{typeName, import, moreImports};
+ghost use Prim.Native.Nat.{ℕ, _+_, _<_};
+ghost use Rattle.quanta_token.specs.TokenKind.{code, Contract, Import, RBrace, Semi};
+ghost use Rattle.quanta_grammar.specs.NodeKind.{nodeCode, import-node, contract-node};
+ghost use Rattle.quanta_grammar.specs.Productions.{typeName, imports, import, moreImports, contracts, contract, items};
 ghost use Rattle.quanta_cursor.specs.Tokens.{size, kindAt, Ready};
-ghost use Rattle.quanta_cursor.specs.Answers.{Reads};
+ghost use Rattle.quanta_cursor.specs.Answers.{Reads, Lists};
 ghost use Rattle.quanta_cursor.specs.Cursor.{spanAt, Closes};
 ghost use Rattle.quanta_cursor.specs.Lists.{WordList};
+ghost use Rattle.quanta_parser.specs.Runs.{Runs};
+
+// Imports or contracts one after the other: the next token, the next record, how many, and the last one's span.
+pub struct Run {
+    pub at: TokenPos,
+    pub no: RecordNo,
+    pub count: u32,
+    pub span: Span,
+}
+
+// The answer of a reader of them.
+pub enum Ran {
+    Run(Run),
+    Refused(Refusal),
+}
+
+// The imports of a program, and `span` where there is none.
+pub fn imports(tokens: &[u32], tree: &mut [u32], at: TokenPos, no: RecordNo, span: Span) -> Ran
+    requires { ⌜ Ready (now tokens) (at .0) (no .0) ⌝ }
+    ensures { λ r. ⌜ ((src : List ℕ) (a : ℕ) → Runs src imports (now (tokens .entry)) (at .0) (no .0) a span (now (tree .entry)) r (now (tree .exit))) ⌝ }
+{
+    let mut at = at;
+    let mut no = no;
+    let mut span = span;
+    let mut count: u32 = 0;
+    while peek(tokens, at) == token::IMPORT {
+        match import_decl(tokens, tree, at, no) {
+            Parsed::Refused(e) => return Ran::Refused(e),
+            Parsed::Node(import) => {
+                at = import.at;
+                no = import.no;
+                span = import.span;
+                count += 1;
+            }
+        }
+    }
+    Ran::Run(Run {
+        at: at,
+        no: no,
+        count: count,
+        span: span,
+    })
+}
+
+// The contracts of a program, and `span` where there is none.
+pub fn contracts(
+    src: &[u8],
+    tokens: &[u32],
+    tree: &mut [u32],
+    at: TokenPos,
+    no: RecordNo,
+    allowance: usize,
+    span: Span,
+) -> Ran
+    requires { ⌜ Ready (now tokens) (at .0) (no .0) ⌝ }
+    ensures { λ r. ⌜ Runs (now (src .entry)) contracts (now (tokens .entry)) (at .0) (no .0) allowance span (now (tree .entry)) r (now (tree .exit)) ⌝ }
+{
+    let mut at = at;
+    let mut no = no;
+    let mut span = span;
+    let mut count: u32 = 0;
+    while peek(tokens, at) == token::CONTRACT {
+        match contract(src, tokens, tree, at, no, allowance) {
+            Parsed::Refused(e) => return Ran::Refused(e),
+            Parsed::Node(contract) => {
+                at = contract.at;
+                no = contract.no;
+                span = contract.span;
+                count += 1;
+            }
+        }
+    }
+    Ran::Run(Run {
+        at: at,
+        no: no,
+        count: count,
+        span: span,
+    })
+}
 
 fn import_decl(tokens: &[u32], tree: &mut [u32], at: TokenPos, no: RecordNo) -> Parsed
     requires { ⌜ Ready (now tokens) (at .0) (no .0) × (kindAt (now tokens) (at .0) ≡ code Import) ⌝ }
@@ -106,5 +189,87 @@ fn close_import(tokens: &[u32], tree: &mut [u32], own: TokenPos, count: u32, pat
         own,
         span,
         count,
+    )
+}
+
+fn contract(
+    src: &[u8],
+    tokens: &[u32],
+    tree: &mut [u32],
+    at: TokenPos,
+    no: RecordNo,
+    allowance: usize,
+) -> Parsed
+    requires { ⌜ Ready (now tokens) (at .0) (no .0) × (kindAt (now tokens) (at .0) ≡ code Contract) ⌝ }
+    ensures { λ r. ⌜ Reads (now (src .entry)) contract (now (tokens .entry)) (at .0) (no .0) allowance (now (tree .entry)) r (now (tree .exit)) ⌝ }
+{
+    match expect_ident(tokens, tree, bump(at), no) {
+        Parsed::Refused(e) => Parsed::Refused(e),
+        Parsed::Node(name) => {
+            let open = name.at;
+            let no = name.no;
+            match expect(tokens, open, token::LBRACE) {
+                Expected::Refused(e) => Parsed::Refused(e),
+                Expected::Next(inside) => {
+                    match items(src, tokens, tree, inside, no, allowance) {
+                        Listed::Refused(e) => Parsed::Refused(e),
+                        Listed::Nodes(items) => close_contract(tokens, tree, at, items),
+                    }
+                }
+            }
+        }
+    }
+}
+
+fn items(
+    src: &[u8],
+    tokens: &[u32],
+    tree: &mut [u32],
+    at: TokenPos,
+    no: RecordNo,
+    allowance: usize,
+) -> Listed
+    requires { ⌜ Ready (now tokens) (at .0) (no .0) ⌝ }
+    ensures { λ r. ⌜ Lists (now (src .entry)) items (now (tokens .entry)) (at .0) (no .0) allowance (now (tree .entry)) r (now (tree .exit)) ⌝ }
+{
+    let mut at = at;
+    let mut no = no;
+    let mut count: u32 = 0;
+    while peek(tokens, at) != token::RBRACE && peek(tokens, at) != token::EOF {
+        match contract_item(src, tokens, tree, at, no, allowance) {
+            Parsed::Refused(e) => return Listed::Refused(e),
+            Parsed::Node(item) => {
+                at = item.at;
+                no = item.no;
+                count += 1;
+            }
+        }
+    }
+    Listed::Nodes(Nodes {
+        at: at,
+        no: no,
+        count: count,
+    })
+}
+
+// The `}` behind the items of the contract whose keyword is the token at `own`.
+fn close_contract(tokens: &[u32], tree: &mut [u32], own: TokenPos, items: Nodes) -> Parsed
+    requires { ⌜ Ready (now tokens) (items .at .0) (items .no .0) × (own .0 < size (now tokens)) × (items .count + 1 < 4294967296) ⌝ }
+    ensures { λ r. ⌜ Closes (now (tokens .entry)) (now (tree .entry)) (code RBrace) (items .at .0) (items .no .0) (nodeCode contract-node) 0 (own .0) (spanAt (now (tokens .entry)) (own .0)) (items .count + 1) r (now (tree .exit)) ⌝ }
+{
+    let at = items.at;
+    let no = items.no;
+    let span = peek_span(tokens, own);
+    close(
+        tokens,
+        tree,
+        token::RBRACE,
+        at,
+        no,
+        node::CONTRACT,
+        0,
+        own,
+        span,
+        items.count + 1,
     )
 }

@@ -48,11 +48,11 @@ word-of c a b k e = subst (λ (k : ℕ). has (fine OfWord ∷ []) (elim (eqb k (
     by false true = refl
     by false false = refl
 
-text-kind : (src ws : List ℕ) (i : ℕ) → kindAt ws i ≡ code Ident → textKind src (plainAt ws i) ≡ wordKind (textOf src (plainAt ws i))
+pub text-kind : (src ws : List ℕ) (i : ℕ) → kindAt ws i ≡ code Ident → textKind src (plainAt ws i) ≡ wordKind (textOf src (plainAt ws i))
 text-kind src ws i e = ap (λ (b : Bool). elim b as (λ z. ℕ) [ true ↦ wordKind (textOf src (plainAt ws i)) | false ↦ kindAt ws i ]) (eq-eqb (kindAt ws i) (code Ident) e)
 
 -- the text that the code compared
-text-is : (src ws : List ℕ) (i : ℕ) {w : List ℕ} {s : Span} {a e : ℕ} → s ≡ spanAt ws i → a ≡ s .start → e ≡ s .end → w ≡ take (e - a) (drop a src) → w ≡ textOf src (plainAt ws i)
+pub text-is : (src ws : List ℕ) (i : ℕ) {w : List ℕ} {s : Span} {a e : ℕ} → s ≡ spanAt ws i → a ≡ s .start → e ≡ s .end → w ≡ take (e - a) (drop a src) → w ≡ textOf src (plainAt ws i)
 text-is src ws i {w} {s} {a} {e} x y z v =
     v ∙ ap (λ (n : ℕ). take (n - a) (drop a src)) z ∙ ap (λ (n : ℕ). take (s .end - n) (drop n src)) y ∙ ap (λ (s : Span). take (s .end - s .start) (drop (s .start) src)) x
 

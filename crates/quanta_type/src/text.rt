@@ -26,7 +26,7 @@ pub fn part(src: &[u8], start: usize, end: usize) -> &[u8]
     &src[..0]
 }
 
-fn wide(x: u32) -> usize
+pub fn wide(x: u32) -> usize
     ensures { λ r. ⌜ r ≡ x ⌝ }
 {
     x as usize

@@ -5,7 +5,7 @@ use mathlib.Core.List.{[]}
 use native.Mathlib.Omega.{arith}
 use Rattle.quanta_token.specs.TokenKind.{code, Import}
 use Rattle.quanta_cursor.proofs.Meeting.{failed}
-use Rattle.quanta_parser.proofs.Items.{keyword-past, import-unopened, open-ready, import-nameless, names-ready, names-few, import-unclosed, shut-ready, import-fromless, from-ready, import-pathless, path-ready, import-met}
+use Rattle.quanta_parser.proofs.Parts.{keyword-past, import-unopened, open-ready, import-nameless, names-ready, names-few, import-unclosed, shut-ready, import-fromless, from-ready, import-pathless, path-ready, import-met}
 use borrow.Author.Needs.{needs}
 use Rattle.quanta_parser.proofs.program.import_decl.Statement.{statement}
 use Rattle.quanta_parser.proofs.program.import_decl.Tie as tie

@@ -1,0 +1,3 @@
+pub mod Units
+pub mod Clauses
+pub mod Turns

@@ -1,0 +1,3 @@
+pub mod Options
+pub mod Params
+pub mod Fields

@@ -1,0 +1,9 @@
+pub mod TokenWords
+pub mod Laying
+pub mod Finishing
+pub mod Conforming
+pub mod Faithful
+pub mod Numbers
+pub mod Rows
+pub mod Lengths
+pub mod Theorems

@@ -1,0 +1,46 @@
+-- THE THEOREMS of the five calls: this page states and cites.
+-- Assumes nothing.
+use mathlib.Core.Path.{_≡_, ap, sym, _∙_}
+use mathlib.Core.List.{List}
+use Prim.Native.Nat.{ℕ}
+use lib.ListN.{length}
+use Rattle.quanta_grammar.specs.Productions.{Symbol}
+use Rattle.quanta_grammar.specs.Reading.{Call}
+use Rattle.quanta_reading.specs.declared.answer.Answer.{Answer}
+use Rattle.quanta_reading.specs.declared.outcome.Outcome.{Outcome}
+use Rattle.quanta_reading.specs.Reading.{Reading, reading, Conforms}
+use Rattle.quanta_reading.specs.Demand3.{Enough, Exact}
+use Rattle.quanta_reading.specs.Values.{values, Fits, Exported}
+use Rattle.quanta_reading.specs.Rows.{rows, said, seen}
+use Rattle.quanta_reading.proofs.Lengths as Lengths
+use Rattle.quanta_reading.proofs.Faithful as Faithful
+use Rattle.quanta_reading.proofs.Numbers as Numbers
+use Rattle.quanta_reading.proofs.Rows as Rows
+
+module _ {s : Symbol} {source table : List ℕ} {tokens tree : ℕ} where
+  -- DEMAND 1: TWO CONFORMING OUTCOMES COINCIDE, of each call, in the answer and in every word of both buffers.
+  pub coincide : {r r₂ : Answer} {tokens′ tokens₂ tree′ tree₂ : List ℕ} → Conforms s source table tokens tree r tokens′ tree′ → Conforms s source table tokens tree r₂ tokens₂ tree₂
+      → (r ≡ r₂) × (tokens′ ≡ tokens₂) × (tree′ ≡ tree₂)
+  coincide a b = (a .answers ∙ sym (b .answers), a .tokened ∙ sym (b .tokened), a .treed ∙ sym (b .treed))
+
+  -- and so by C calling convention, in the eight numbers
+  pub coincide-exported : {r r₂ : Outcome} {tokens′ tokens₂ tree′ tree₂ : List ℕ} → Exported s source table tokens tree r tokens′ tree′ → Exported s source table tokens tree r₂ tokens₂ tree₂
+      → (r ≡ r₂) × (tokens′ ≡ tokens₂) × (tree′ ≡ tree₂)
+  coincide-exported x y = let z = coincide (x .2) (y .2) in (x .1 ∙ ap values (z .0) ∙ sym (y .1), z .1, z .2)
+
+-- THE WORDS ARE ALL of both buffers.
+pub every-word : (s : Symbol) (source table : List ℕ) (tokens tree : ℕ) → (length (reading s source table tokens tree .tokens) ≡ tokens) × (length (reading s source table tokens tree .tree) ≡ tree)
+every-word = Lengths.every-word
+
+-- DEMAND 3: with room for all, what conforms accepts exactly the sentences, and has the records of the one derivation.
+pub exact : {s : Symbol} → Call s → (source table : List ℕ) (tokens tree : ℕ) → Enough source table tokens tree → {r : Answer} {tokens′ tree′ : List ℕ}
+    → Conforms s source table tokens tree r tokens′ tree′ → Exact s source table tree r tree′
+exact = Faithful.exact
+
+-- The numbers of an answer fit a word.
+pub fits : {s : Symbol} → Call s → {source table : List ℕ} {tokens tree : ℕ} {r : Answer} {tokens′ tree′ : List ℕ} → Conforms s source table tokens tree r tokens′ tree′ → Fits r
+fits = Numbers.fits
+
+-- THE ROWS of document 01 that are marked P hold.
+pub rows-hold : seen rows ≡ said rows
+rows-hold = Rows.all-hold

@@ -1,0 +1,76 @@
+-- DEMAND 3: with room for all, a call accepts exactly the sentences, and leaves the records of the one derivation.
+-- Assumes nothing.
+use mathlib.Core.Path.{_≡_}
+use mathlib.Core.List.{List, [], _++_}
+use mathlib.Core.Logic.{_↔_}
+use Prim.Native.Nat.{ℕ, _+_, _-_, _*_, _≤_}
+use lib.ListN.{length, replicate}
+use Rattle.grammar.specs.Grammar.{Tok, yield, Lawful}
+use Rattle.grammar.specs.Records.{treeOf, nodes}
+use Rattle.grammar.specs.Facts.{Within, Tallied}
+use Rattle.utf8.specs.Utf8.{firstBad}
+use Rattle.utf8.specs.declared.Found.the-variants.{AllWell}
+use Rattle.quanta_source.specs.Source.{checked}
+use Rattle.quanta_source.specs.declared.source.Checked.the-variants.{Clean}
+use Rattle.quanta_words.specs.Words.{badIn}
+use Rattle.quanta_lexer.specs.Refusals.{sourceLimit, tableLimit}
+use Rattle.quanta_lexer.specs.Tokens.{Lexing, done, lexAll}
+use Rattle.quanta_grammar.specs.Productions.{Symbol, Derivation, outs}
+use Rattle.quanta_grammar.specs.Reading.{terms}
+use Rattle.quanta_grammar.specs.Measuring.{size}
+use Rattle.quanta_grammar.specs.Refine.{refine}
+use Rattle.quanta_reading.specs.declared.answer.Answer.{Answer}
+use Rattle.quanta_reading.specs.declared.answer.Answer.the-variants.{Accepted}
+use Rattle.quanta_reading.specs.Reading.{recordWords}
+
+-- a well-formed table, a source within the limit, and room for one token record per byte plus one and for as many tree records
+pub record Enough (source table : List ℕ) (tokens tree : ℕ) : Type 0 where
+  pub short : length table ≤ tableLimit
+  pub formed : badIn table ≡ length table
+  pub limited : length source ≤ sourceLimit
+  pub tokenRoom : 3 * (length source + 1) ≤ tokens
+  pub treeRoom : 6 * (length source + 1) ≤ tree
+
+-- lexically valid: none of 3 to 10 arises
+pub record Valid (source table : List ℕ) : Type 0 where
+  -- 3: it is UTF-8
+  pub utf8 : firstBad source ≡ AllWell
+  -- 4 and 5: no CR without LF, no barred character
+  pub clean : checked source ≡ Clean
+  -- 6 to 10: no failing token
+  pub scanned : lexAll source table .ending ≡ done
+
+-- the tokens, as the grammar has them
+abbrev pub tokensOf : List ℕ → List ℕ → List Tok
+tokensOf source table = refine source (lexAll source table .toks)
+
+-- a sentence of s
+pub record Sentence (s : Symbol) (source table : List ℕ) : Type 0 where
+  pub valid : Valid source table
+  -- a derivation of its tokens
+  pub derivation : Derivation s
+  pub spells : yield derivation ≡ tokensOf source table
+  -- each assignment's target leaves the record of a name or of a field: parentheses leave none
+  pub targets : Lawful terms derivation []
+  -- the measure
+  pub measured : size derivation ≤ 64
+
+abbrev pub Accepts : Answer → Type 0
+Accepts r = (n : ℕ) × (m : ℕ) × (r ≡ Accepted n m)
+
+-- the call s answers r and leaves these words in a tree buffer of so many
+pub record Exact (s : Symbol) (source table : List ℕ) (tree : ℕ) (r : Answer) (words : List ℕ) : Type 0 where
+  -- it accepts exactly the sentences
+  pub exactly : Accepts r ↔ Sentence s source table
+  -- the derivation is the only one
+  pub only : (d e : Derivation s) → yield d ≡ tokensOf source table → yield e ≡ tokensOf source table → d ≡ e
+  -- it yields the counts and the tree words
+  pub counts : (x : Sentence s source table) → r ≡ Accepted (length (lexAll source table .toks)) (length (nodes outs (x .derivation)))
+  pub yields : (x : Sentence s source table) → let rs = nodes outs (x .derivation) in words ≡ recordWords rs ++ replicate (tree - 6 * length rs) 0
+  -- children lie inside their parent, siblings in order without overlap, all inside the source
+  pub nested : (x : Sentence s source table) → Within 0 (length source) (treeOf outs (x .derivation))
+  -- a record's last number is the number of its children
+  pub tallied : (x : Sentence s source table) → Tallied (treeOf outs (x .derivation))
+
+abbrev pub Faithful : Symbol → List ℕ → List ℕ → ℕ → ℕ → Answer → List ℕ → Type 0
+Faithful s source table tokens tree r words = Enough source table tokens tree → Exact s source table tree r words

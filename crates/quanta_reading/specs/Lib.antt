@@ -1,0 +1,5 @@
+pub mod Reading
+pub mod Finish
+pub mod Demand3
+pub mod Values
+pub mod Rows
