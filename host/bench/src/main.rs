@@ -8,29 +8,38 @@ use oracle::args;
 use std::process::ExitCode;
 
 const HELP: &str = "\
-bench: the speed of the proved lexer beside the original's `tokenize`
+bench: the speed of the proved reader beside the original's
 
 usage: bench lexer [--rounds N]
+       bench calls [--rounds N]
        bench callgrind lexer
+       bench callgrind calls
        bench count lexer TEXT SIDE [--stop PASS]
+       bench count calls TEXT SIDE
+       bench count tokens TEXT SIDE
 
-lexer            MB/s on texts of 1 MiB with the original's word list, both sides in turns in one
-                 run; then on words against tables that cost the most
+lexer            MB/s of reading tokens on texts of 1 MiB with the original's word list, both sides in
+                 turns in one run; then on words against tables that cost the most
+calls            MB/s of the five calls on texts of 1 MiB, likewise; then what the parsing alone takes (a
+                 call less its reading of the tokens), and programs from 1 KiB to 1 MiB
 --rounds N       the number of rounds (default 15)
-callgrind lexer  instructions per byte of the same texts, and by pass; needs valgrind, takes minutes
-count lexer      makes the inputs and calls one side once, for callgrind's
-                 --toggle-collect=bench_measured
-TEXT             typical, cjk, cyrillic, crlf, quotes, comments, blanks, names, strings, numbers,
-                 symbols, refused; any-words, same-front, long-words, three-bytes, last-byte-off,
-                 doubles, short-words (words against a table of 64 KiB), short-table (512 bytes),
-                 shorter-table (128 bytes)
+callgrind        instructions per byte of the same texts; of the lexer by pass too; needs valgrind, takes
+                 minutes
+count            makes the inputs and calls one side once, for callgrind's
+                 --toggle-collect=bench_measured; tokens is the calls' texts as far as the tokens
+TEXT             of lexer: typical, cjk, cyrillic, crlf, quotes, comments, blanks, names, strings,
+                 numbers, symbols, refused; any-words, same-front, long-words, three-bytes,
+                 last-byte-off, doubles, short-words (words against a table of 64 KiB), short-table
+                 (512 bytes), shorter-table (128 bytes)
+                 of calls: the programs typical, deep, wide, names, strings, refused (at its last token);
+                 item, stmt, expr, type by their calls; 1-KiB, 4-KiB, 16-KiB, 64-KiB, 256-KiB, 1024-KiB
 SIDE             original, or proved-full, proved-tight, proved-none by the records lent: one for each
-                 byte and one more, as many as tokens, none
+                 byte and one more, as many as there are, none
 --stop PASS      have the text refused at its end by the pass utf8 or source (default none)
 
 Buffers are filled before each call, so that their pages are there. The original is given text that is
-known to be UTF-8, and its Vec is dropped after the measuring; the proved side tests the UTF-8 and the
-word table within it.
+known to be UTF-8, and what it makes is dropped after the measuring; the proved side tests the UTF-8 and
+the word table within it.
 Exit code: 0, or 2 on bad usage or where valgrind fails.
 ";
 
@@ -41,9 +50,11 @@ fn main() -> ExitCode {
         let operands = args.any_operands()?;
         let operands: Vec<&str> = operands.iter().map(String::as_str).collect();
         match operands[..] {
-            ["lexer"] if rounds > 0 => time::print(rounds),
-            ["callgrind", "lexer"] => count::print()?,
-            ["count", "lexer", text, side] => count::once(text, side, &stop)?,
+            ["lexer"] if rounds > 0 => time::print_lexer(rounds),
+            ["calls"] if rounds > 0 => time::print_calls(rounds),
+            ["callgrind", "lexer"] => count::print_lexer()?,
+            ["callgrind", "calls"] => count::print_calls()?,
+            ["count", what, text, side] => count::once(what, text, side, &stop)?,
             _ => return Err("no such measurement".to_string()),
         }
         Ok(ExitCode::SUCCESS)

@@ -1,22 +1,34 @@
-//! The two lexers that are measured, and the room that is lent.
+//! The two readers that are measured, how far they read, and the room that is lent.
 
 use crate::texts::Text;
-use oracle::TOKEN_WORDS;
+use oracle::{Call, TOKEN_WORDS, TREE_WORDS};
+use quanta::raw;
+use quanta_ast::{Expr, Item, Program, Stmt, Type};
 use quanta_lexer::{LexError, Token};
+use quanta_parser::ParseError;
 
-/// The original's `tokenize`, which makes a Vec, or the proved reading of bytes into tokens.
+/// How far a text is read.
+#[derive(Clone, Copy, PartialEq, Eq)]
+pub enum Part {
+    /// As far as the tokens: the original's `tokenize`, and the proved lexer.
+    Tokens,
+    /// By a call: the original's `parse` and its like, and the five proved calls.
+    Whole,
+}
+
+/// The original, which makes its own lists and trees, or the proved reader.
 #[derive(Clone, Copy, PartialEq, Eq)]
 pub enum Side {
     Original,
     Proved(Room),
 }
 
-/// The token records that are lent.
+/// The records that are lent.
 #[derive(Clone, Copy, PartialEq, Eq)]
 pub enum Room {
     /// One for each byte and one more.
     Full,
-    /// As many as there are tokens.
+    /// As many as there are tokens, and as many as there are tree records.
     Tight,
     None,
 }
@@ -42,16 +54,51 @@ impl Side {
 
 /// What a side gives back; it is dropped only after the measuring.
 pub enum Given {
-    Original(Result<Vec<Token>, LexError>),
-    Proved(proved::Lexed),
+    OriginalTokens(Result<Vec<Token>, LexError>),
+    OriginalTree(Tree),
+    ProvedTokens(proved::Lexed),
+    ProvedTree(raw::Outcome),
+}
+
+/// What the original's calls give.
+pub enum Tree {
+    Program(Result<Program, ParseError>),
+    Item(Result<Item, ParseError>),
+    Stmt(Result<Stmt, ParseError>),
+    Expr(Result<Expr, ParseError>),
+    Type(Result<Type, ParseError>),
 }
 
 impl Given {
-    /// The number of tokens, or 0 for a refusal.
-    pub fn tokens(&self) -> usize {
+    /// What both sides must agree on: the number of tokens, 0 for a refusal; of a tree, whether there is one.
+    pub fn verdict(&self) -> usize {
         match self {
-            Given::Original(tokens) => tokens.as_ref().map_or(0, Vec::len),
-            Given::Proved(lexed) => lexed.tokens as usize,
+            Given::OriginalTokens(tokens) => tokens.as_ref().map_or(0, Vec::len),
+            Given::ProvedTokens(lexed) => lexed.tokens as usize,
+            Given::OriginalTree(tree) => usize::from(tree.is_accepted()),
+            Given::ProvedTree(outcome) => usize::from(outcome.number == 0),
+        }
+    }
+}
+
+impl Tree {
+    fn read(call: Call, text: &str) -> Tree {
+        match call {
+            Call::Program => Tree::Program(quanta_parser::parse(text)),
+            Call::Item => Tree::Item(quanta_parser::parse_item(text)),
+            Call::Stmt => Tree::Stmt(quanta_parser::parse_stmt(text)),
+            Call::Expr => Tree::Expr(quanta_parser::parse_expr(text)),
+            Call::Type => Tree::Type(quanta_parser::parse_type(text)),
+        }
+    }
+
+    fn is_accepted(&self) -> bool {
+        match self {
+            Tree::Program(tree) => tree.is_ok(),
+            Tree::Item(tree) => tree.is_ok(),
+            Tree::Stmt(tree) => tree.is_ok(),
+            Tree::Expr(tree) => tree.is_ok(),
+            Tree::Type(tree) => tree.is_ok(),
         }
     }
 }
@@ -61,32 +108,41 @@ const RUBBISH: u32 = 0xA5A5_5A5A;
 
 /// A side with its inputs, ready to be called.
 pub struct Ready<'a> {
+    part: Part,
     side: Side,
+    call: Call,
     source: &'a [u8],
     text: &'a str,
     words: &'a [u8],
-    buffer: Vec<u32>,
+    tokens: Vec<u32>,
+    tree: Vec<u32>,
 }
 
 impl<'a> Ready<'a> {
-    pub fn new(side: Side, text: &'a Text) -> Ready<'a> {
-        let records = match side {
-            Side::Original | Side::Proved(Room::None) => 0,
-            Side::Proved(Room::Tight) => tokens_of(text),
-            Side::Proved(Room::Full) => text.source.len() + 1,
+    pub fn new(part: Part, side: Side, text: &'a Text) -> Ready<'a> {
+        let most = text.source.len() + 1;
+        let (tokens, records) = match side {
+            Side::Original | Side::Proved(Room::None) => (0, 0),
+            Side::Proved(Room::Tight) => (tokens_of(text), records_of(part, text)),
+            Side::Proved(Room::Full) => (most, most),
         };
+        let records = if part == Part::Whole { records } else { 0 };
         Ready {
+            part,
             side,
+            call: text.call,
             source: &text.source,
             text: std::str::from_utf8(&text.source).unwrap_or(""),
             words: &text.words,
-            buffer: vec![RUBBISH; TOKEN_WORDS * records],
+            tokens: vec![RUBBISH; TOKEN_WORDS * tokens],
+            tree: vec![RUBBISH; TREE_WORDS * records],
         }
     }
 
-    /// Makes the buffer as it was before the first call.
+    /// Makes the buffers as they were before the first call.
     pub fn touch(&mut self) {
-        self.buffer.fill(RUBBISH);
+        self.tokens.fill(RUBBISH);
+        self.tree.fill(RUBBISH);
     }
 }
 
@@ -94,11 +150,17 @@ impl<'a> Ready<'a> {
 #[no_mangle]
 #[inline(never)]
 pub fn bench_measured(ready: &mut Ready) -> Given {
-    match ready.side {
-        Side::Original => Given::Original(quanta_lexer::tokenize(ready.text)),
-        Side::Proved(_) => {
-            let lexed = proved::tokenize(ready.source, ready.words, &mut ready.buffer);
-            Given::Proved(lexed)
+    let (source, words) = (ready.source, ready.words);
+    let (tokens, tree) = (&mut ready.tokens[..], &mut ready.tree[..]);
+    match (ready.side, ready.part) {
+        (Side::Original, Part::Tokens) => Given::OriginalTokens(quanta_lexer::tokenize(ready.text)),
+        (Side::Original, Part::Whole) => Given::OriginalTree(Tree::read(ready.call, ready.text)),
+        (Side::Proved(_), Part::Tokens) => {
+            Given::ProvedTokens(proved::tokenize(source, words, tokens))
+        }
+        (Side::Proved(_), Part::Whole) => {
+            let call = proved::call(ready.call);
+            Given::ProvedTree(raw::read(call, source, words, tokens, tree))
         }
     }
 }
@@ -106,6 +168,22 @@ pub fn bench_measured(ready: &mut Ready) -> Given {
 /// The number of a text's tokens; of one that is refused at its last byte, those before.
 pub fn tokens_of(text: &Text) -> usize {
     let need = |source: &[u8]| proved::tokenize(source, &text.words, &mut []).need as usize;
+    match need(&text.source) {
+        0 => need(&text.source[..text.source.len() - 1]),
+        need => need,
+    }
+}
+
+/// The number of a text's tree records, where it is read by a call; of one that is refused at its last byte, those before.
+pub fn records_of(part: Part, text: &Text) -> usize {
+    if part == Part::Tokens {
+        return 0;
+    }
+    let mut tokens = vec![0; TOKEN_WORDS * (text.source.len() + 1)];
+    let mut need = |source: &[u8]| {
+        let call = proved::call(text.call);
+        raw::read(call, source, &text.words, &mut tokens, &mut []).need as usize
+    };
     match need(&text.source) {
         0 => need(&text.source[..text.source.len() - 1]),
         need => need,

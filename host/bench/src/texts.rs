@@ -4,7 +4,7 @@ use crate::typical;
 use cases::rng::Rng;
 use cases::words::{listed, Likeness};
 use oracle::table::{self, MAX_TABLE};
-use oracle::MAX_SOURCE;
+use oracle::{Call, MAX_SOURCE};
 use std::collections::HashSet;
 
 // Lengths of short word tables, for which a lexer may do without an index.
@@ -14,9 +14,10 @@ const SHORTER: usize = 128;
 // A few bytes are left for what is put behind a text to have it refused there.
 const LONGEST: usize = MAX_SOURCE - 8;
 
-/// A text with its word table.
+/// A text with its word table and the call that reads it.
 pub struct Text {
     pub name: &'static str,
+    pub call: Call,
     pub source: Vec<u8>,
     pub words: Vec<u8>,
 }
@@ -54,6 +55,7 @@ fn plain_text(name: &'static str) -> Text {
     };
     Text {
         name,
+        call: Call::Program,
         source: source.into_bytes(),
         words: table::original(),
     }
@@ -92,6 +94,7 @@ fn word_text(name: &'static str, held: &[String], mut missed: Vec<String>) -> Te
     let rng = &mut Rng::new(11);
     Text {
         name,
+        call: Call::Program,
         source: filled(|| format!("{} ", rng.pick(&missed))).into_bytes(),
         words: table::encode(held.iter().map(String::as_str)),
     }
@@ -119,12 +122,105 @@ fn other_case(word: &[u8], _: usize) -> Vec<u8> {
     [&[first], &word[1..]].concat()
 }
 
+/// The names of the texts that the calls read: six programs, then a text for each other call.
+pub const CALL_NAMES: [&str; 10] = [
+    "typical", "deep", "wide", "names", "strings", "refused", "item", "stmt", "expr", "type",
+];
+
+/// The names of one program of several lengths, in KiB.
+pub const GROWING: [(&str, usize); 6] = [
+    ("1-KiB", 1),
+    ("4-KiB", 4),
+    ("16-KiB", 16),
+    ("64-KiB", 64),
+    ("256-KiB", 256),
+    ("1024-KiB", 1024),
+];
+
+/// The text of this name that a call reads.
+pub fn call_text(name: &str) -> Option<Text> {
+    let growing = GROWING.into_iter().find(|(known, _)| *known == name);
+    if let Some((name, kib)) = growing {
+        let longest = (1024 * kib).min(LONGEST);
+        let source = typical::statements("contract C {\n    genesis {\n", "    }\n}\n", longest);
+        return Some(read_by(name, Call::Program, source));
+    }
+    let name = CALL_NAMES.into_iter().find(|known| *known == name)?;
+    let rng = &mut Rng::new(13);
+    let between = |front: &str, back: &str, part: &mut dyn FnMut() -> String| {
+        let parts = filled_up_to(LONGEST - front.len() - back.len(), part);
+        format!("{front}{parts}{back}")
+    };
+    let (open, close) = ("contract C {\n    genesis {\n", "    }\n}\n");
+    let list = "contract C { genesis { emit E(1";
+    let (call, source) = match name {
+        "typical" => (Call::Program, typical::program(LONGEST)),
+        "refused" => (Call::Program, typical::program(LONGEST) + "}"),
+        "deep" => (Call::Program, between(open, close, &mut || deep(rng))),
+        "wide" => (
+            Call::Program,
+            between(list, "); } }", &mut || {
+                format!(",{}", rng.pick(&["a", "1", "-b", "c.d"]))
+            }),
+        ),
+        "names" => (
+            Call::Program,
+            between("contract C { entry e() writes(a", ") { } }", &mut || {
+                format!(", {}", &letters(rng, 'a', 12)[..3 + rng.below(10)])
+            }),
+        ),
+        "strings" => (
+            Call::Program,
+            between(list, "); } }", &mut || {
+                format!(", \"{}\"", letters(rng, 'a', 26))
+            }),
+        ),
+        "item" => (Call::Item, typical::statements("genesis {\n", "}", LONGEST)),
+        "stmt" => (Call::Stmt, typical::expressions("emit E(1", ");", LONGEST)),
+        "expr" => (Call::Expr, typical::expressions("f(1", ")", LONGEST)),
+        _ => (Call::Type, typical::types("Map<1", ">", LONGEST)),
+    };
+    Some(read_by(name, call, source))
+}
+
+fn read_by(name: &'static str, call: Call, source: String) -> Text {
+    Text {
+        name,
+        call,
+        source: source.into_bytes(),
+        words: table::original(),
+    }
+}
+
+// A statement whose expression has a measure of 61 to 64, by one construct.
+fn deep(rng: &mut Rng) -> String {
+    let times = rng.between(60, 63);
+    let nest = |open: &str, times: usize, close: &str| {
+        format!("{}a{}", open.repeat(times), close.repeat(times))
+    };
+    let deep = match rng.below(8) {
+        0 => nest("(", times, ")"),
+        1 => nest("checked(", times, ")"),
+        2 => nest("-", times, ""),
+        3 => nest("", times, ".b"),
+        4 => nest("", times, "()"),
+        5 => nest("f(", times / 2, ")"),
+        6 => nest("", times, " + b"),
+        _ => nest("(a && ", times / 2, ")"),
+    };
+    format!("        x = {deep};\n")
+}
+
 // Parts one after another, up to the greatest length.
-fn filled(mut part: impl FnMut() -> String) -> String {
-    let mut out = String::with_capacity(LONGEST);
+fn filled(part: impl FnMut() -> String) -> String {
+    filled_up_to(LONGEST, part)
+}
+
+fn filled_up_to(longest: usize, mut part: impl FnMut() -> String) -> String {
+    let mut out = String::with_capacity(longest);
     loop {
         let next = part();
-        if out.len() + next.len() > LONGEST {
+        if out.len() + next.len() > longest {
             return out;
         }
         out += &next;
@@ -156,6 +252,35 @@ mod tests {
         for name in NAMES {
             let accepted = is_accepted(text(name).unwrap());
             assert_eq!(accepted, name != "refused", "{name}");
+        }
+    }
+
+    #[test]
+    fn call_texts_are_accepted_but_one() {
+        for name in CALL_NAMES {
+            let text = call_text(name).unwrap();
+            assert!(text.source.len() <= LONGEST + 1, "{name}");
+            assert!(text.source.len() > LONGEST - LONGEST / 50, "{name}");
+            let last = text.source.len() as u32;
+            let case = Case::ample(text.call, text.source, text.words);
+            match oracle::read(&case).answer {
+                Answer::Accepted { .. } => assert!(name != "refused"),
+                Answer::Refused(refusal) => {
+                    assert_eq!((name, refusal.number, refusal.end), ("refused", 22, last));
+                }
+            }
+        }
+    }
+
+    #[test]
+    fn growing_texts_are_accepted() {
+        for (name, kib) in GROWING {
+            let text = call_text(name).unwrap();
+            let length = text.source.len();
+            assert!(length <= 1024 * kib && length > 900 * kib, "{name}");
+            let case = Case::ample(text.call, text.source, text.words);
+            let answer = oracle::read(&case).answer;
+            assert!(matches!(answer, Answer::Accepted { .. }), "{name}");
         }
     }
 

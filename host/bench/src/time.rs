@@ -1,31 +1,32 @@
-//! Times of both lexers, taken in turns in one run.
+//! Times of both sides, taken in turns in one run.
 
-use crate::sides::{bench_measured, tokens_of, Ready, Room, Side};
+use crate::sides::{bench_measured, records_of, tokens_of, Part, Ready, Room, Side};
 use crate::texts::{self, Text};
 use std::hint::black_box;
 
 const TIGHT: Side = Side::Proved(Room::Tight);
 const FULL: Side = Side::Proved(Room::Full);
+const SIDES: [Side; 3] = [Side::Original, FULL, TIGHT];
 
-/// Prints the table of texts, then that of word tables.
-pub fn print(rounds: usize) {
-    println!(
-        "MB/s (10^6 bytes a second of CPU time), median of {rounds} rounds; a factor is proved over original"
-    );
+// A round takes a short text so often that its calls read about so many bytes.
+const ROUND: usize = 1 << 18;
+
+/// Prints the lexer's table of texts, then that of word tables.
+pub fn print_lexer(rounds: usize) {
+    heading(rounds);
     println!("text           bytes   tokens  original      full factor     tight factor");
     let mut typical = 0.0;
     for name in texts::NAMES {
         let text = texts::text(name).expect("the name is listed");
-        let [original, full, tight] = speeds(&text, rounds, [Side::Original, FULL, TIGHT]);
+        let speeds = seconds(Part::Tokens, &text, rounds, SIDES).map(|time| speed(&text, time));
         println!(
-            "{name:10} {:9} {:8} {original:9.1} {full:9.1} {:6.2} {tight:9.1} {:6.2}",
+            "{name:10} {:9} {:8} {}",
             text.source.len(),
             tokens_of(&text),
-            full / original,
-            tight / original
+            beside(speeds)
         );
         if name == "typical" {
-            typical = tight;
+            typical = speeds[2];
         }
     }
     println!(
@@ -33,7 +34,8 @@ pub fn print(rounds: usize) {
     );
     println!("words              bytes   tokens    table     tight   cost");
     for text in texts::word_texts() {
-        let [tight] = speeds(&text, rounds, [TIGHT]);
+        let [time] = seconds(Part::Tokens, &text, rounds, [TIGHT]);
+        let tight = speed(&text, time);
         println!(
             "{:14} {:9} {:8} {:8} {tight:9.1} {:6.2}",
             text.name,
@@ -45,23 +47,85 @@ pub fn print(rounds: usize) {
     }
 }
 
-// The median speed of each side, the sides taking turns; they must find as many tokens.
-fn speeds<const N: usize>(text: &Text, rounds: usize, sides: [Side; N]) -> [f64; N] {
-    let mut ready = sides.map(|side| Ready::new(side, text));
+/// Prints the five calls' table of texts, what the parsing alone takes, and how the time grows.
+pub fn print_calls(rounds: usize) {
+    heading(rounds);
+    println!("text       call        bytes   tokens  records  original      full factor     tight factor");
+    let mut alone = Vec::new();
+    for name in texts::CALL_NAMES {
+        let text = texts::call_text(name).expect("the name is listed");
+        let whole = seconds(Part::Whole, &text, rounds, SIDES);
+        let tokens = seconds(Part::Tokens, &text, rounds, SIDES);
+        print_call(&text, whole);
+        alone.push((name, [0, 1, 2].map(|side| whole[side] - tokens[side]), text));
+    }
+    println!("\nparsing alone: a call less its reading of the tokens");
+    println!("text        original      full factor     tight factor");
+    for (name, times, text) in alone {
+        let speeds = times.map(|time| speed(&text, time));
+        println!("{name:10} {}", beside(speeds));
+    }
+    println!("\nthe same kind of program in several lengths");
+    println!("text       call        bytes   tokens  records  original      full factor     tight factor");
+    for (name, _) in texts::GROWING {
+        let text = texts::call_text(name).expect("the name is listed");
+        print_call(&text, seconds(Part::Whole, &text, rounds, SIDES));
+    }
+}
+
+fn print_call(text: &Text, times: [f64; 3]) {
+    println!(
+        "{:10} {:7} {:9} {:8} {:8} {}",
+        text.name,
+        text.call.name(),
+        text.source.len(),
+        tokens_of(text),
+        records_of(Part::Whole, text),
+        beside(times.map(|time| speed(text, time)))
+    );
+}
+
+fn heading(rounds: usize) {
+    println!(
+        "MB/s (10^6 bytes a second of CPU time), median of {rounds} rounds; a factor is proved over original"
+    );
+}
+
+fn beside([original, full, tight]: [f64; 3]) -> String {
+    let factors = [full / original, tight / original];
+    format!(
+        "{original:9.1} {full:9.1} {:6.2} {tight:9.1} {:6.2}",
+        factors[0], factors[1]
+    )
+}
+
+fn speed(text: &Text, seconds: f64) -> f64 {
+    text.source.len() as f64 / seconds / 1e6
+}
+
+// The median time of each side, the sides taking turns; they must agree.
+fn seconds<const N: usize>(part: Part, text: &Text, rounds: usize, sides: [Side; N]) -> [f64; N] {
+    let mut ready = sides.map(|side| Ready::new(part, side, text));
     let mut times = [const { Vec::new() }; N];
-    let mut tokens = None;
+    let mut verdict = None;
+    let calls = (ROUND / text.source.len()).max(1);
     for _ in 0..rounds {
         for (ready, times) in ready.iter_mut().zip(&mut times) {
+            let mut given = Vec::with_capacity(calls);
             ready.touch();
             let start = cpu_seconds();
-            let given = black_box(bench_measured(ready));
-            times.push(cpu_seconds() - start);
-            assert_eq!(*tokens.get_or_insert(given.tokens()), given.tokens());
+            for _ in 0..calls {
+                given.push(black_box(bench_measured(ready)));
+            }
+            times.push((cpu_seconds() - start) / calls as f64);
+            for given in given {
+                assert_eq!(*verdict.get_or_insert(given.verdict()), given.verdict());
+            }
         }
     }
     times.map(|mut times| {
         times.sort_by(f64::total_cmp);
-        text.source.len() as f64 / times[rounds / 2] / 1e6
+        times[rounds / 2]
     })
 }
 

@@ -45,6 +45,46 @@ pub fn program(longest: usize) -> String {
     }
 }
 
+/// Whole statements up to this many bytes, between a front and a back.
+pub fn statements(front: &str, back: &str, longest: usize) -> String {
+    repeated(front, back, longest, |writer| {
+        writer.put("        ");
+        writer.statement();
+        writer.put("\n");
+    })
+}
+
+/// Whole expressions, each behind a comma and a blank, up to this many bytes, between a front and a back.
+pub fn expressions(front: &str, back: &str, longest: usize) -> String {
+    repeated(front, back, longest, |writer| {
+        writer.put(", ");
+        writer.expression(3);
+    })
+}
+
+/// Types likewise.
+pub fn types(front: &str, back: &str, longest: usize) -> String {
+    repeated(front, back, longest, |writer| {
+        writer.put(", ");
+        writer.ty();
+    })
+}
+
+fn repeated(front: &str, back: &str, longest: usize, part: fn(&mut Writer)) -> String {
+    let mut writer = Writer {
+        rng: Rng::new(43),
+        out: front.to_string(),
+    };
+    loop {
+        let before = writer.out.len();
+        part(&mut writer);
+        if writer.out.len() + back.len() > longest {
+            writer.out.truncate(before);
+            return writer.out + back;
+        }
+    }
+}
+
 struct Writer {
     rng: Rng,
     out: String,

@@ -16,6 +16,15 @@ fn single_calls() {
             "{side}"
         );
     }
+    for (what, side) in [
+        ("calls", "original"),
+        ("calls", "proved-full"),
+        ("calls", "proved-tight"),
+        ("tokens", "proved-tight"),
+    ] {
+        let args = ["count", what, "4-KiB", side];
+        assert_eq!(code(&args), Some(0), "{args:?}");
+    }
     let stopped = [
         "count",
         "lexer",
@@ -29,9 +38,12 @@ fn single_calls() {
 
 #[test]
 fn bad_usage() {
-    let rows: [&[&str]; 6] = [
+    let rows: [&[&str]; 9] = [
         &[],
         &["parser"],
+        &["calls", "--rounds", "0"],
+        &["count", "calls", "cjk", "original"],
+        &["count", "parser", "typical", "original"],
         &["lexer", "--rounds", "0"],
         &["count", "lexer", "typical"],
         &["count", "lexer", "nothing", "original"],

@@ -1,7 +1,7 @@
 //! The options by which the programs choose cases.
 
-use crate::exhaustive::{Strings, DEFAULT_ALPHABET};
-use crate::{case, scalars, Kind, DEFAULT_SIZE};
+use crate::exhaustive::{token_strings, Strings, DEFAULT_ALPHABET};
+use crate::{case, edges, edits, nesting, scalars, Kind, DEFAULT_SIZE};
 use oracle::args::Args;
 use oracle::{Call, Case};
 
@@ -19,8 +19,13 @@ pub const HELP: &str = "\
                   all      a mixture (default)
                   words    word tables of many words, sources of words nearly in them
                   blocks   long runs of one script, whole or damaged at any offset
-                  scalars  every Unicode scalar in a string, in a comment and first;
-                           takes no seed and no count
+                  these are whole lists and take no seed and no count:
+                  scalars  every Unicode scalar in a string, in a comment and first
+                  tokens   all short strings of tokens, for each call
+                  edits    all edits of one token in a program of every production and in its parts
+                  nesting  measures 62 to 66 by every construct at every place
+                  edges    rooms, empty sources, the longest sources and tables, for each call
+--most N          with tokens: the most strings of one list of tokens (default 10,000)
 --size N          the greatest length of a list in a text (default 3)
 --exhaustive LEN  all strings of at most LEN bytes, with an empty table and room enough
 --alphabet STR    their bytes (default: a1.(),<>=-\"@/ ; with the blank and LF)
@@ -33,8 +38,14 @@ pub fn chosen(args: &mut Args) -> Result<Option<Box<dyn Iterator<Item = Case>>>,
         return Ok(Some(exhaustive(args, longest as usize)?));
     }
     let kind = args.value("--kind")?.unwrap_or("all".to_string());
-    if kind == "scalars" {
-        return Ok(Some(Box::new(scalars::all())));
+    let most = args.number("--most")?.unwrap_or(10_000) as usize;
+    match kind.as_str() {
+        "scalars" => return Ok(Some(Box::new(scalars::all()))),
+        "tokens" => return Ok(Some(Box::new(token_strings(most)))),
+        "edits" => return Ok(Some(Box::new(Call::ALL.into_iter().flat_map(edits::of)))),
+        "nesting" => return Ok(Some(Box::new(nesting::all().map(|nested| nested.case)))),
+        "edges" => return Ok(Some(Box::new(edges::all()))),
+        _ => {}
     }
     let Some(seed) = args.number("--seed")? else {
         return Ok(None);

@@ -4,7 +4,7 @@ use crate::rng::Rng;
 
 /// Tokens to put in wrong places: every symbol, every keyword and some that fail in the lexer.
 #[rustfmt::skip]
-const TOKENS: [&str; 70] = [
+pub const TOKENS: [&str; 70] = [
     "contract", "entry", "guard", "genesis", "caller", "in_asset", "native", "now", "state", "invariant",
     "event", "emit", "asset", "let", "signed", "by", "sealed", "meta", "Quorum", "after", "from", "mints",
     "burns", "conserves", "writes", "reads", "limits", "denies", "import", "checked", "wrapping",

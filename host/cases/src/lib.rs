@@ -3,10 +3,15 @@
 mod blocks;
 pub mod choice;
 mod damage;
+pub mod edges;
+pub mod edits;
 pub mod exhaustive;
 mod grammar;
 mod layout;
 mod limits;
+pub mod nesting;
+pub mod readings;
+
 pub mod rng;
 pub mod scalars;
 pub mod stored;

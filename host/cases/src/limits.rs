@@ -35,7 +35,7 @@ pub fn case(rng: &mut Rng) -> Case {
 }
 
 // `front`, as many whole fillers as fit, blanks up to the length, `back`.
-fn filled(length: usize, front: &str, filler: &str, back: &str) -> Vec<u8> {
+pub fn filled(length: usize, front: &str, filler: &str, back: &str) -> Vec<u8> {
     let middle = length - front.len() - back.len();
     let fillers = filler.repeat(middle / filler.len());
     let blanks = " ".repeat(middle % filler.len());

@@ -1,4 +1,4 @@
-use cases::{choice, stored};
+use cases::{choice, readings, stored};
 use oracle::args::{self, Args};
 use oracle::frame;
 use std::io::{BufWriter, Write};
@@ -8,13 +8,15 @@ const USAGE: &str = "\
 cases: writes a stream of framed cases for the readers
 
 usage: cases --seed N --count N [--kind KIND] [--size N]
-       cases --kind scalars
+       cases --kind scalars | tokens | edits | nesting | edges
        cases --exhaustive LEN [--alphabet STR] [--call CALL]
        cases --stored
+       cases --readings
 
 ";
 const REST: &str = "\
 --stored          the list oracle/tests/answers.frames: cases, each followed by its answer
+--readings        the list of readings that the program `readings` replays, a line for each
 Exit code: 0, or 2 on bad usage.
 ";
 
@@ -32,8 +34,14 @@ fn write_cases(mut args: Args) -> Result<(), String> {
         let [] = args.operands()?;
         return done(out.write_all(&stored::list()).and_then(|()| out.flush()));
     }
-    let chosen = choice::chosen(&mut args)?
-        .ok_or("--seed and --count, --kind scalars, --exhaustive or --stored is needed")?;
+    if args.flag("--readings") {
+        let [] = args.operands()?;
+        let list = readings::list();
+        return done(out.write_all(list.as_bytes()).and_then(|()| out.flush()));
+    }
+    let chosen = choice::chosen(&mut args)?.ok_or(
+        "--seed and --count, a --kind that is a whole list, --exhaustive, --stored or --readings is needed",
+    )?;
     let [] = args.operands()?;
     for case in chosen {
         done(frame::write_case(&case, &mut out))?;

@@ -18,9 +18,19 @@ const KINDS: [Kind; 6] = [
     Kind::Bytes,
 ];
 
-/// A few cases for each of these kinds, each call, verdict and kind of record, with short sources and tables.
+/// The list as a stream of frames.
 pub fn list() -> Vec<u8> {
     let mut out = Vec::new();
+    for (case, outcome) in chosen() {
+        frame::write_case(&case, &mut out).expect("a Vec takes every write");
+        frame::write_answer(&outcome, &mut out);
+    }
+    out
+}
+
+/// A few cases for each of these kinds, each call, verdict and kind of record, with short sources and tables.
+pub fn chosen() -> Vec<(Case, Outcome)> {
+    let mut list = Vec::new();
     let mut nodes = HashMap::new();
     for kind in KINDS {
         let mut kept = HashMap::new();
@@ -38,12 +48,11 @@ pub fn list() -> Vec<u8> {
                 .count()
                 > 0;
             if new_verdict || new_node {
-                frame::write_case(&case, &mut out).expect("a Vec takes every write");
-                frame::write_answer(&outcome, &mut out);
+                list.push((case, outcome));
             }
         }
     }
-    out
+    list
 }
 
 // Counts this one; true for the first few.

@@ -54,12 +54,18 @@ fn bad(mut table: Vec<u8>, rng: &mut Rng) -> Vec<u8> {
     table
 }
 
+/// A table of exactly the greatest length.
+pub fn longest() -> Vec<u8> {
+    let word = "w".repeat(255);
+    let mut out = table::encode([word.as_str()].repeat(MAX_TABLE / 258));
+    let rest = MAX_TABLE - out.len() - 3;
+    out.extend_from_slice(&table::encode([&word[..rest]]));
+    out
+}
+
 // A table of exactly the greatest length or one byte more, sometimes with a bad first record.
 fn long(rng: &mut Rng) -> Vec<u8> {
-    let longest = "w".repeat(255);
-    let mut out = table::encode([longest.as_str()].repeat(MAX_TABLE / 258));
-    let rest = MAX_TABLE - out.len() - 3;
-    out.extend_from_slice(&table::encode([&longest[..rest]]));
+    let mut out = longest();
     if rng.once_in(2) {
         out.push(MARK[0]);
     }

@@ -1,8 +1,9 @@
 //! What the generator promises: grammatical texts, exact measures, the same bytes for the same seed.
 
-use cases::exhaustive::Strings;
-use cases::{case, measured_case, scalars, Kind, DEFAULT_SIZE};
-use oracle::{frame, Answer, Call, Case};
+use cases::exhaustive::{token_strings, Strings};
+use cases::{case, edges, edits, measured_case, nesting, scalars, Kind, DEFAULT_SIZE};
+use oracle::{frame, Answer, Call, Case, TOKEN_WORDS, TREE_WORDS};
+use std::collections::BTreeSet;
 
 fn number(case: &Case) -> u32 {
     match oracle::read(case).answer {
@@ -127,6 +128,91 @@ fn every_call_occurs() {
         for call in Call::ALL {
             let occurs = (0..count).any(|index| case(kind, 3, index, 1).call == call);
             assert!(occurs, "no {} call among {name}", call.name());
+        }
+    }
+}
+
+// Every kind of token and record, and every flag of each kind of record.
+#[test]
+fn the_program_uses_every_production() {
+    let outcome = oracle::read(&Case::ample(Call::Program, edits::EVERY.into(), Vec::new()));
+    let tokens = outcome.tokens.chunks_exact(TOKEN_WORDS);
+    let kinds: BTreeSet<u32> = tokens.map(|token| token[0]).collect();
+    assert_eq!(kinds, (0..=62).collect());
+    let records = outcome.tree.chunks_exact(TREE_WORDS);
+    let mut flags: BTreeSet<(u32, u32)> = records.map(|record| (record[0], record[1])).collect();
+    flags.remove(&(0, 0));
+    let flags_of = |kind| match kind {
+        10 | 11 | 19 => 4,
+        25 => 3,
+        37 => 2,
+        38 => 14,
+        _ => 1,
+    };
+    let all = (1..=40).flat_map(|kind| (0..flags_of(kind)).map(move |flag| (kind, flag)));
+    assert_eq!(flags, all.collect());
+}
+
+#[test]
+fn nested_texts_have_their_measure() {
+    for nested in nesting::all().step_by(3) {
+        let text = String::from_utf8_lossy(&nested.case.source);
+        match number(&nested.case) {
+            20 => assert!(nested.measure > 64, "{} {text}", nested.measure),
+            0 => assert!(nested.measure <= 64, "{} {text}", nested.measure),
+            number => assert!(number == 21 && nested.is_target, "{number} {text}"),
+        }
+    }
+}
+
+#[test]
+fn each_edit_is_there() {
+    let parts = edits::parts(Call::Type);
+    assert!(parts.contains(&vec!["Order", "<", "1", "of", "2", ">"]));
+    let texts: Vec<_> = edits::of(Call::Type).map(|case| case.source).collect();
+    for text in [
+        "Amount",
+        "",
+        "Amount Amount",
+        "; Amount",
+        ";",
+        "Order 1 < of 2 >",
+        "Order < 1 of 2",
+        "Order < 1 o 2 >",
+        "Order < 1 oz 2 >",
+        "order < 1 of 2 >",
+    ] {
+        let there = texts.iter().any(|known| known == text.as_bytes());
+        assert_eq!(there, text != "Amount Amount", "{text}");
+    }
+    for call in Call::ALL {
+        assert!(!edits::parts(call).is_empty());
+    }
+}
+
+#[test]
+fn strings_of_tokens() {
+    let strings: Vec<Vec<u8>> = Strings::of_tokens("a >>", 2).collect();
+    let expected: [&[u8]; 7] = [b"", b"a", b">>", b"a a", b"a >>", b">> a", b">> >>"];
+    assert_eq!(strings, expected);
+    let accepted = |call| {
+        let of_call = token_strings(2000).filter(|case| case.call == call);
+        of_call.filter(|case| number(case) == 0).count()
+    };
+    for call in Call::ALL {
+        assert!(accepted(call) > 0, "{}", call.name());
+    }
+}
+
+#[test]
+fn edges_are_on_both_sides() {
+    let mut seen = BTreeSet::new();
+    for case in edges::all() {
+        seen.insert((case.call.name(), number(&case)));
+    }
+    for call in Call::ALL {
+        for wanted in [0, 1, 2, 11, 23] {
+            assert!(seen.contains(&(call.name(), wanted)), "{wanted}");
         }
     }
 }

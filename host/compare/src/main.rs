@@ -10,7 +10,7 @@ const USAGE: &str = "\
 compare: feeds the same cases to two readers and compares their whole answers
 
 usage: compare LEFT RIGHT --seed N --count N [--kind KIND] [--size N]
-       compare LEFT RIGHT --kind scalars
+       compare LEFT RIGHT --kind scalars | tokens | edits | nesting | edges
        compare LEFT RIGHT --exhaustive LEN [--alphabet STR] [--call CALL]
        compare LEFT RIGHT --stream FILE
 
@@ -18,6 +18,7 @@ LEFT, RIGHT       readers:
                   oracle         the original
                   lexical        the original as far as the tokens: refusals 1 to 11, or
                                  `A tokens 0`, and the token buffer
+                  proved         the five proved calls
                   proved-lexer   the proved crates as far as the tokens
                   cmd:PROGRAM ARGS   a program that takes framed cases on standard input
                                  and writes the whole answer to each at once
@@ -54,7 +55,8 @@ fn chosen(args: &mut Args) -> Result<Cases, String> {
             frames.next_case().transpose()
         })));
     }
-    let cases = cases::choice::chosen(args)?
-        .ok_or("--seed and --count, --kind scalars, --exhaustive or --stream is needed")?;
+    let cases = cases::choice::chosen(args)?.ok_or(
+        "--seed and --count, a --kind that is a whole list, --exhaustive or --stream is needed",
+    )?;
     Ok(Box::new(cases.map(Ok)))
 }

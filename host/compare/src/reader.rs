@@ -47,8 +47,9 @@ impl<F: FnMut(&Case) -> Outcome> Reader for F {
 type Linked = fn(&Case) -> Outcome;
 
 /// The linked readers by name.
-const LINKED: [(&str, Linked); 3] = [
+const LINKED: [(&str, Linked); 4] = [
     ("oracle", oracle::read),
+    ("proved", proved::read),
     ("lexical", oracle::read_lexical),
     ("proved-lexer", proved::read_lexical),
 ];

@@ -29,7 +29,7 @@ impl Maker<'_> {
         self.put(&[")"]);
     }
 
-    pub(super) fn expr(&mut self, measure: usize) {
+    pub fn expr(&mut self, measure: usize) {
         self.level(0, measure - 1);
     }
 
@@ -131,8 +131,12 @@ impl Maker<'_> {
         if measure == 0 {
             return self.leaf();
         }
-        if self.shape != Shape::Parentheses && self.rng.once_in(2) {
-            self.pick(&["checked", "wrapping"]);
+        match self.shape {
+            Shape::Parentheses => {}
+            Shape::Checked => self.put(&["checked"]),
+            Shape::Wrapping => self.put(&["wrapping"]),
+            _ if self.rng.once_in(2) => self.pick(&["checked", "wrapping"]),
+            _ => {}
         }
         self.put(&["("]);
         self.expr(measure);

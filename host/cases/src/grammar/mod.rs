@@ -18,6 +18,8 @@ pub use expr::LEVELS;
 pub enum Shape {
     Mixed,
     Parentheses,
+    Checked,
+    Wrapping,
     Level(usize),
     Prefix,
     Field,

@@ -3,7 +3,7 @@
 use super::{Maker, INTS};
 
 impl Maker<'_> {
-    pub(super) fn ty(&mut self, measure: usize) {
+    pub fn ty(&mut self, measure: usize) {
         if self.rng.once_in(6) {
             self.put(&["Quorum"]);
         } else {

@@ -1,0 +1,127 @@
+//! For build scripts: links the archive of a proved crate, and makes it first where it is missing or older than its sources.
+//! The environment variable QUANTA_ARCHIVE_DIR names another folder that holds the archives; they are then taken as they are.
+
+use std::collections::BTreeSet;
+use std::fs::File;
+use std::path::{Path, PathBuf};
+use std::process::Command;
+use std::time::SystemTime;
+use std::{env, fs};
+
+/// Tells cargo to link the archive of a Rattle crate. Its path is QUANTA_ARCHIVE for the package's own code and tests.
+pub fn link(name: &str) {
+    println!("cargo::rerun-if-env-changed=QUANTA_ARCHIVE_DIR");
+    let found = match env::var_os("QUANTA_ARCHIVE_DIR") {
+        Some(dir) => lent_archive(&PathBuf::from(dir), name),
+        None => own_archive(name),
+    };
+    match found {
+        Ok(archive) => tell(&archive, name),
+        Err(message) => println!("cargo::error={message}"),
+    }
+}
+
+fn tell(archive: &Path, name: &str) {
+    let dir = archive.parent().expect("an archive lies in a folder");
+    println!("cargo::rerun-if-changed={}", archive.display());
+    println!("cargo::rustc-env=QUANTA_ARCHIVE={}", archive.display());
+    println!("cargo::rustc-link-search=native={}", dir.display());
+    println!("cargo::rustc-link-lib=static={name}");
+}
+
+fn lent_archive(dir: &Path, name: &str) -> Result<PathBuf, String> {
+    let archive = dir.join(format!("lib{name}.a"));
+    if !archive.is_file() {
+        return Err(format!(
+            "QUANTA_ARCHIVE_DIR is set, but there is no {}",
+            archive.display()
+        ));
+    }
+    Ok(archive)
+}
+
+// The archive of the repository that this package is part of.
+fn own_archive(name: &str) -> Result<PathBuf, String> {
+    let root = Path::new(env!("CARGO_MANIFEST_DIR")).join("../..");
+    let archive = root.join(format!("target/staticlib/lib{name}.a"));
+    let mut newest = SystemTime::UNIX_EPOCH;
+    for reached in reached(&root, name)? {
+        let folder = root.join("crates").join(reached);
+        println!("cargo::rerun-if-changed={}", folder.display());
+        newest = newest.max(newest_in(&folder)?);
+    }
+    // Build scripts run beside each other, rt in a repository only once at a time.
+    let lock = root.join("target/archive.lock");
+    let locked = fs::create_dir_all(root.join("target"))
+        .and_then(|()| File::create(&lock))
+        .and_then(|file| file.lock().map(|()| file));
+    let _locked = locked.map_err(|error| format!("cannot lock {}: {error}", lock.display()))?;
+    let made = fs::metadata(&archive).and_then(|data| data.modified());
+    if made.is_err() || made.is_ok_and(|made| made < newest) {
+        make(&root, name)?;
+    }
+    Ok(archive)
+}
+
+// The crate and those of the repository that it depends on, by crates.txt.
+fn reached(root: &Path, name: &str) -> Result<BTreeSet<String>, String> {
+    let path = root.join("crates.txt");
+    println!("cargo::rerun-if-changed={}", path.display());
+    let listed = fs::read_to_string(&path).map_err(|error| unreadable(&path, &error))?;
+    let lines: Vec<_> = listed.lines().filter_map(|l| l.split_once(':')).collect();
+    let mut reached = BTreeSet::new();
+    let mut open = vec![name];
+    while let Some(next) = open.pop() {
+        let Some((_, needs)) = lines.iter().find(|(known, _)| known.trim() == next) else {
+            continue;
+        };
+        if reached.insert(next.to_string()) {
+            open.extend(needs.split_whitespace());
+        }
+    }
+    if reached.is_empty() {
+        return Err(format!("crates.txt does not list {name}"));
+    }
+    Ok(reached)
+}
+
+fn newest_in(folder: &Path) -> Result<SystemTime, String> {
+    let read = || -> std::io::Result<SystemTime> {
+        let mut newest = SystemTime::UNIX_EPOCH;
+        let mut open = vec![folder.to_path_buf()];
+        while let Some(folder) = open.pop() {
+            for entry in fs::read_dir(folder)? {
+                let entry = entry?;
+                let data = entry.metadata()?;
+                newest = newest.max(data.modified()?);
+                if data.is_dir() {
+                    open.push(entry.path());
+                }
+            }
+        }
+        Ok(newest)
+    };
+    read().map_err(|error| unreadable(folder, &error))
+}
+
+fn unreadable(path: &Path, error: &std::io::Error) -> String {
+    format!("cannot read {}: {error}", path.display())
+}
+
+fn make(root: &Path, name: &str) -> Result<(), String> {
+    let ran = Command::new("rt")
+        .args(["staticlib", name])
+        .current_dir(root)
+        .output();
+    let output = ran.map_err(|error| {
+        format!("the archive of {name} is missing or old, and rt, which makes it, does not start: {error}")
+    })?;
+    if !output.status.success() {
+        eprint!("{}", String::from_utf8_lossy(&output.stdout));
+        eprint!("{}", String::from_utf8_lossy(&output.stderr));
+        return Err(format!(
+            "`rt staticlib {name}` failed; what it said is above"
+        ));
+    }
+    Ok(())
+}

@@ -1,0 +1,32 @@
+#!/usr/bin/env bash
+# The whole comparison of the five proved calls with the original: answers and every word of both buffers, which hold rubbish
+# before each call. Some 12 million cases, a quarter of an hour or more.
+# Prints each command with its count and how far it is; the last line is 'N cases, D disagreements'. Exit status 1 where any disagree.
+set -uo pipefail
+cd "$(dirname "${BASH_SOURCE[0]}")/.." || exit 2
+cargo build --release --offline -p compare || exit 2
+cases=0
+disagreements=0
+run() {
+    local said
+    printf '%s\n' "compare oracle proved $*"
+    said=$(target/release/compare oracle proved "$@")
+    [ $? -le 1 ] || exit 2
+    printf '%s\n' "$said"
+    [[ ${said##*$'\n'} =~ ^([0-9]+)\ cases,\ ([0-9]+)\ disagreements$ ]] || exit 2
+    ((cases += BASH_REMATCH[1], disagreements += BASH_REMATCH[2]))
+}
+run --kind edges
+run --kind nesting
+run --kind edits
+run --kind tokens --most 1000000
+for call in program item stmt expr type; do
+    run --exhaustive 4 --call "$call"
+done
+for kind in grammar depth damage tables room bytes words blocks; do
+    run --kind "$kind" --seed 78 --count 100000
+done
+run --kind limits --seed 6 --count 1000
+run --seed 20260202 --count 2000000
+echo "$cases cases, $disagreements disagreements"
+[ "$disagreements" -eq 0 ]

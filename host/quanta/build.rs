@@ -1,0 +1,5 @@
+//! Links the five proved calls.
+
+fn main() {
+    archive::link("quanta");
+}
