@@ -68,9 +68,9 @@ proof('is_duration','',[SY,OM,K+'{code, Int}',C+'Places.{past-as}',Q+'Units.{no-
 
 # after
 DUR=f'(target-true {SRC} {WS} {AT} (@is-duration .ensures) (@if1 .taken))'
-proof('after_target',': a duration or an expression',['mathlib.Core.Path.{refl}','mathlib.Core.Bool.{true, false}',C+'Meeting.{took-of, failed-of}',Q+'Clauses.{target-is, target-true, unit-ready, duration-took, value-took}'],
+proof('after_target',': a duration or an expression',['mathlib.Core.Path.{refl}','mathlib.Core.Bool.{false}',C+'Meeting.{took-of, failed-of}',Q+'Clauses.{target-is, target-true, unit-ready, duration-target, value-took}'],
   leaf_requires_2=f'unit-ready {SRC} {WS} (@pre) {DUR} (@leaf .ensures .0)',
-  returns=f'target-is true (@is-duration .ensures) (@if1 .taken) (duration-took {SRC} {WS} (@pre) {DUR} (@leaf .ensures .0) (@leaf2 .ensures .0) {A} (@leaf .ensures .1) (@leaf2 .ensures .1) (@join .ensures) refl)',
+  returns='duration-target (@pre) (@is-duration .ensures) (@if1 .taken) (@leaf .ensures .0) (@leaf2 .ensures .0) (@leaf .ensures .1) (@leaf2 .ensures .1) (@join .ensures) refl',
   returns_2=f'target-is false (@is-duration .ensures) (@if1 .left) (failed-of (@e .given .1) (@expr .ensures {SRC}))',
   returns_3=f'target-is false (@is-duration .ensures) (@if1 .left) (value-took (took-of (@value .given .1) (@expr .ensures {SRC})))')
 proof('end_after','',[Q+'Clauses.{after-made}'],returns='after-made (@put .ensures .0) (@peek-span .ensures) (@join .ensures) (@put .ensures .1)')

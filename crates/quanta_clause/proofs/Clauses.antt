@@ -353,7 +353,7 @@ module _ (src ws : List ℕ) {i n : ℕ} (g : Ready ws i n) (d : T (isDuration s
       unit-at : u .at .0 ≡ i + 1 + 1
       unit-at = ap (λ (u : Node). u .at .0) y ∙ ap (λ (j : ℕ). j + 1) value-at
 
-      pub duration-took : (a : ℕ) {t t₁ t₂ : List ℕ} {s : Span} {flag : ℕ} → t₁ ≡ putRec t n (leafRec ws i (nodeCode int-node)) → t₂ ≡ putRec t₁ (m .no .0) (leafRec ws (m .at .0) (nodeCode name-node)) → s ≡ joined (m .span) (u .span) → flag ≡ flagCode has-duration
+      duration-took : (a : ℕ) {t t₁ t₂ : List ℕ} {s : Span} {flag : ℕ} → t₁ ≡ putRec t n (leafRec ws i (nodeCode int-node)) → t₂ ≡ putRec t₁ (m .no .0) (leafRec ws (m .at .0) (nodeCode name-node)) → s ≡ joined (m .span) (u .span) → flag ≡ flagCode has-duration
           → TookTarget (reads duration a (from src ws i) fresh) src ws t n (flagCode has-duration) (record { at = u .at; no = u .no; span = s; flag = flag; count = 2 }) t₂
       duration-took a {t} {t₁} {t₂} {s} f h l w =
           record {
@@ -384,6 +384,11 @@ target-is {src} {ws} {i} {n} {a} {t} {r} {t′} c e f x = record { by = subst (�
 
 pub target-true : (src ws : List ℕ) (i : ℕ) {b : Bool} → b ≡ isDuration src ws i → b ≡ true → T (isDuration src ws i)
 target-true src ws i e f = subst T (sym f ∙ e) tt
+
+pub duration-target : {src ws : List ℕ} {i n : ℕ} → Ready ws i n → {b : Bool} → b ≡ isDuration src ws i → b ≡ true → {m : Node} → m ≡ leafNode ws i n (nodeCode int-node) → {u : Node} → u ≡ leafNode ws (m .at .0) (m .no .0) (nodeCode name-node)
+    → {a : ℕ} {t t₁ t₂ : List ℕ} {s : Span} {flag : ℕ} → t₁ ≡ putRec t n (leafRec ws i (nodeCode int-node)) → t₂ ≡ putRec t₁ (m .no .0) (leafRec ws (m .at .0) (nodeCode name-node)) → s ≡ joined (m .span) (u .span) → flag ≡ flagCode has-duration
+    → Targets src ws i n a t (targeted.Target (record { at = u .at; no = u .no; span = s; flag = flag; count = 2 })) t₂
+duration-target {src} {ws} {i} g e f x y {a} h k l w = target-is true e f (duration-took src ws g (target-true src ws i e f) x y a h k l w)
 
 module _ {src ws : List ℕ} {i n a : ℕ} {t : List ℕ} {y : Targeted} {t′ : List ℕ} (v : Targets src ws i n a t y t′) where
   pub target-of : {r : AfterTarget} → y ≡ targeted.Target r → TookTarget (reads (targetOf (isDuration src ws i)) a (from src ws i) fresh) src ws t n (flagIf (isDuration src ws i)) r t′

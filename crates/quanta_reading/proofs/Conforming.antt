@@ -1,7 +1,6 @@
 -- The five calls at once: whichever way a call goes, it conforms.
 -- Assumes nothing.
 use mathlib.Core.Path.{_≡_, refl, ap, sym, subst, _∙_}
-use mathlib.Core.Bool.{Bool}
 use mathlib.Core.List.{List, []}
 use Prim.Native.Nat.{ℕ, _+_, _*_, _/_, _≤_}
 use native.Mathlib.Omega.{arith}
@@ -12,13 +11,12 @@ use Rattle.grammar.specs.Records.{Acc, Rec, records as recordsIn, fresh, nodes}
 use Rattle.grammar.specs.Reader.{Res}
 use Rattle.grammar.specs.Fused.{Outcome}
 use Rattle.quanta_lexer.specs.Refusals.{sourceLimit}
-use Rattle.quanta_lexer.specs.Tokens.{Tok, Lexing, records, lexAll}
-use Rattle.quanta_lexer.specs.Promise.{Promised}
+use Rattle.quanta_lexer.specs.Tokens.{Tok, records, lexAll}
 use Rattle.quanta_lexer.specs.Tokenizing.{tokenizing, tokenWords}
 use Rattle.quanta_lexer.specs.declared.lexer.Answer.{Answer as OfBytes}
 use Rattle.quanta_lexer.specs.declared.lexer.Answer.the-variants as lexer
 use Rattle.quanta_lexer.proofs.Theorems.{accepted, accepted-small}
-use Rattle.quanta_grammar.specs.Productions.{Symbol, Derivation, outs}
+use Rattle.quanta_grammar.specs.Productions.{Symbol, Derivation}
 use Rattle.quanta_grammar.specs.Reading.{allowance, reads}
 use Rattle.quanta_grammar.specs.Refine.{Answer as OfTokens, accept, reject, answerOf, answer, refine}
 use Rattle.quanta_grammar.proofs.Steps.{comes, fails}
@@ -27,11 +25,11 @@ use Rattle.quanta_cursor.specs.declared.parser.Parsed.{Parsed}
 use Rattle.quanta_cursor.specs.declared.parser.Parsed.the-variants as parser
 use Rattle.quanta_cursor.specs.Tokens.{from, Ready}
 use Rattle.quanta_cursor.specs.Tree.{lay}
-use Rattle.quanta_cursor.specs.Answers.{shown, Failed}
-use Rattle.quanta_parser.specs.Whole.{TookWhole, MeetsWhole, AnswersWhole, ReadsWhole}
+use Rattle.quanta_cursor.specs.Answers.{Failed}
+use Rattle.quanta_parser.specs.Whole.{TookWhole, AnswersWhole, ReadsWhole}
 use Rattle.quanta_reading.specs.declared.answer.Answer.{Answer}
-use Rattle.quanta_reading.specs.declared.answer.Answer.the-variants.{Lexical, NoTokenRoom, Syntax}
-use Rattle.quanta_reading.specs.Reading.{inRoom, parsed, lexed, recordsOf, treeWords, Reading, answering, reading, Conforms}
+use Rattle.quanta_reading.specs.declared.answer.Answer.the-variants.{Lexical, NoTokenRoom}
+use Rattle.quanta_reading.specs.Reading.{inRoom, parsed, lexed, recordsOf, treeWords, answering, reading, Conforms}
 use Rattle.quanta_reading.specs.Finish.{ended, kept}
 use Rattle.quanta_reading.proofs.TokenWords.{length-records, from-all, ready, fronts}
 use Rattle.quanta_reading.proofs.Laying.{kept-is}

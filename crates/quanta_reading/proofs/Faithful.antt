@@ -1,43 +1,43 @@
 -- What conforms is faithful.
 -- Assumes nothing.
 use mathlib.Core.Path.{_≡_, refl, ap, sym, subst, _∙_}
-use mathlib.Core.Bool.{Bool, true, false, not, _&&_}
-use mathlib.Core.List.{List, [], _∷_, _++_}
-use Prim.Native.Nat.{ℕ, suc, _+_, _-_, _*_, _/_, _≤_, _<_}
+use mathlib.Core.Bool.{Bool, true, false}
+use mathlib.Core.List.{List, _++_}
+use Prim.Native.Nat.{ℕ, _+_, _-_, _*_, _/_, _≤_}
 use native.Mathlib.Omega.{arith}
-use borrow.Author.Tests.{le-ltb, ne-eqb}
-use lib.Dec.{T, ltb, eqb}
+use borrow.Author.Tests.{le-ltb}
+use lib.Dec.{ltb}
 use lib.ListN.{length, replicate}
 use Rattle.grammar.specs.Grammar.{Tok as GTok, yield}
-use Rattle.grammar.specs.Records.{Rec, nodes}
-use Rattle.grammar.specs.Facts.{Derives, Spaced}
+use Rattle.grammar.specs.Records.{Rec, treeOf, nodes}
+use Rattle.grammar.specs.Facts.{Spaced, OwnTokens, Counted}
 use Rattle.utf8.specs.Utf8.{firstBad}
 use Rattle.utf8.specs.declared.Found.{Found}
 use Rattle.utf8.specs.declared.Found.the-variants.{At, AllWell}
-use Rattle.quanta_token.specs.TokenKind.{code, Eof}
 use Rattle.quanta_source.specs.Source.{checked}
 use Rattle.quanta_source.specs.declared.source.Checked.{Checked}
 use Rattle.quanta_source.specs.declared.source.Checked.the-variants.{Clean, CarriageReturn, Barred}
 use Rattle.quanta_words.specs.Words.{badIn}
-use Rattle.quanta_lexer.specs.Promise.{InOrder, eof, more, Promised}
+use Rattle.quanta_lexer.specs.Promise.{InOrder}
 use Rattle.quanta_lexer.specs.Refusals.{sourceLimit, tableLimit}
-use Rattle.quanta_lexer.specs.Tokens.{Tok, Ending, done, refused, Lexing, readFor, readOf, lexAll}
+use Rattle.quanta_lexer.specs.Tokens.{Tok, Ending, done, refused, readFor, readOf, lexAll}
 use Rattle.quanta_lexer.specs.Tokenizing.{orElse, wellOr, cleanOr, reading as readingOf, roomFor, inRoom as inRoomOf, tokenizing}
 use Rattle.quanta_lexer.specs.declared.lexer.Answer.{Answer as OfBytes}
 use Rattle.quanta_lexer.specs.declared.lexer.Answer.the-variants as lexer
 use Rattle.quanta_lexer.specs.declared.lexer.Read.{Read}
 use Rattle.quanta_lexer.specs.declared.lexer.Read.the-variants.{Tokens, Stopped}
 use Rattle.quanta_lexer.proofs.PromiseLaws.{in-order, promised}
-use Rattle.quanta_grammar.specs.Productions.{Symbol, Derivation, outs}
-use Rattle.quanta_grammar.specs.Reading.{toll, terms, allowance, Call}
-use Rattle.quanta_grammar.specs.Refine.{Plain, classify, ahead, refine, closed, Ordered, Answer as OfTokens, accept, reject, answer, Derived}
-use Rattle.quanta_grammar.proofs.Theorems.{unique, few, tallied, nested, answers, answered}
-use Rattle.quanta_grammar.proofs.Refined.{spaced}
+use Rattle.quanta_grammar.specs.Productions.{Symbol, outs}
+use Rattle.quanta_grammar.specs.OwnTokens.{ownKinds}
+use Rattle.quanta_grammar.specs.Reading.{Call}
+use Rattle.quanta_grammar.specs.Refine.{Answer as OfTokens, accept, reject, answer}
+use Rattle.quanta_grammar.proofs.Theorems.{unique, few, tallied, own-tokens, distinct, nested, answers, answered}
+use Rattle.quanta_grammar.proofs.Refined.{counted, spaced}
 use Rattle.quanta_reading.specs.declared.answer.Answer.{Answer}
 use Rattle.quanta_reading.specs.declared.answer.Answer.the-variants.{Accepted, Lexical, NoTokenRoom, Syntax, NoTreeRoom}
-use Rattle.quanta_reading.specs.Reading.{inRoom, parsed, lexed, recordsOf, recordWords, treeWords, Reading, answering, reading, Conforms}
+use Rattle.quanta_reading.specs.Reading.{inRoom, parsed, lexed, recordsOf, recordWords, treeWords, answering, reading, Conforms}
 use Rattle.quanta_reading.proofs.TokenWords.{closes, orders, length-refine}
-use Rattle.quanta_reading.specs.Demand3.{Enough, Valid, tokensOf, Sentence, Accepts, Exact, Faithful}
+use Rattle.quanta_reading.specs.Demand3.{Enough, Valid, Sentence, Exact, Faithful}
 
 -- THE LEXER'S PART
 module _ (s t : List ℕ) where
@@ -192,6 +192,8 @@ module _ {s : Symbol} (c : Call s) (source table : List ℕ) (words tree : ℕ) 
         yields = λ x. f .treed ∙ tree-words x;
         nested = λ x. nested c (x .derivation) 0 (length source) (spans x);
         tallied = λ x. tallied (x .derivation);
+        owned = λ x. subst (λ (ts : List GTok). OwnTokens ownKinds ts (treeOf outs (x .derivation))) (x .spells) (own-tokens (x .derivation));
+        distinct = λ x. distinct (x .derivation) (subst (λ (ts : List GTok). Counted 0 ts) (sym (x .spells)) (counted source (lexAll source table .toks)));
       }
 
 -- A CALL THAT CONFORMS IS FAITHFUL

@@ -13,7 +13,6 @@ use Rattle.quanta_cursor.specs.declared.parser.Parsed.{Parsed}
 use Rattle.quanta_cursor.specs.declared.parser.Parsed.the-variants as parser
 use Rattle.quanta_reading.specs.declared.answer.Answer.{Answer}
 use Rattle.quanta_reading.specs.declared.answer.Answer.the-variants.{Accepted, Syntax, NoTreeRoom}
-use Rattle.quanta_reading.specs.Reading.{inRoom}
 use Rattle.quanta_reading.specs.Finish.{ended, kept}
 
 module _ (t : List ℕ) (n : ℕ) (q : Parsed) where

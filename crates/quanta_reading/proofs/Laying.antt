@@ -7,8 +7,8 @@ use Prim.Native.Nat.{ℕ, suc, _+_, _-_, _*_, _/_, _≤_, _<_}
 use native.Mathlib.Omega.{arith}
 use borrow.Author.Tests.{lt-ltb, ltb-false}
 use lib.Dec.{ltb}
-use lib.ListN.{length, take, drop, set, replicate, length-append, length-take, length-set}
-use lib.Seq.{sets, sets-eq, length-sets, length-take-le, take-at}
+use lib.ListN.{length, take, drop, set, replicate, length-append, length-set}
+use lib.Seq.{sets, sets-eq, length-take-le, take-at}
 use Rattle.grammar.specs.Records.{Rec}
 use Rattle.quanta_cursor.specs.Tree.{putRec, lay}
 use Rattle.quanta_reading.specs.Reading.{inRoom, recordWords, treeWords}

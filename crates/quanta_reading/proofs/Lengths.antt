@@ -1,23 +1,22 @@
 -- The words of a reading are as many as the buffers have.
 -- Assumes nothing.
-use mathlib.Core.Path.{_≡_, refl, ap, sym, subst, _∙_}
+use mathlib.Core.Path.{_≡_, refl, ap, _∙_}
 use mathlib.Core.Bool.{Bool, true, false}
-use mathlib.Core.List.{List, [], _∷_, _++_}
-use Prim.Native.Nat.{ℕ, _+_, _-_, _*_, _/_, _≤_}
+use mathlib.Core.List.{List, [], _∷_}
+use Prim.Native.Nat.{ℕ, _-_, _*_, _/_}
 use native.Mathlib.Omega.{arith}
 use borrow.Author.Tests.{ltb-false}
 use lib.Dec.{ltb}
 use lib.ListN.{length, replicate, length-append, length-replicate}
 use Rattle.grammar.specs.Records.{Rec}
-use Rattle.quanta_lexer.specs.Promise.{Promised}
-use Rattle.quanta_lexer.specs.Tokens.{Tok, Lexing, records, lexAll}
+use Rattle.quanta_lexer.specs.Tokens.{records, lexAll}
 use Rattle.quanta_lexer.specs.Tokenizing.{tokenizing, tokenWords}
 use Rattle.quanta_lexer.specs.declared.lexer.Answer.{Answer as OfBytes}
 use Rattle.quanta_lexer.specs.declared.lexer.Answer.the-variants as lexer
 use Rattle.quanta_lexer.proofs.Theorems.{accepted, records-then-zeros, zeros-after-refusal, zeros-after-short}
 use Rattle.quanta_grammar.specs.Productions.{Symbol}
 use Rattle.quanta_grammar.specs.Refine.{Answer as OfTokens, accept, reject, answer}
-use Rattle.quanta_reading.specs.Reading.{inRoom, parsed, lexed, recordsOf, recordWords, treeWords, Reading, answering, reading}
+use Rattle.quanta_reading.specs.Reading.{inRoom, parsed, lexed, recordsOf, recordWords, treeWords, answering, reading}
 use Rattle.quanta_reading.proofs.TokenWords.{length-records}
 
 zeros : (n : ℕ) → length {A = ℕ} (replicate n 0) ≡ n

@@ -6,4 +6,5 @@ pub mod Faithful
 pub mod Numbers
 pub mod Rows
 pub mod Lengths
+pub mod Needs
 pub mod Theorems

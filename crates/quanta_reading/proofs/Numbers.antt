@@ -3,23 +3,22 @@
 use mathlib.Core.Path.{_≡_, refl, ap, sym, subst, _∙_}
 use mathlib.Core.Bool.{Bool, true, false}
 use mathlib.Core.List.{List}
-use Prim.Native.Nat.{ℕ, _+_, _/_, _≤_, _<_}
+use Prim.Native.Nat.{ℕ, _/_, _<_}
 use native.Mathlib.Omega.{arith}
 use lib.Dec.{ltb}
 use lib.ListN.{length}
-use Rattle.grammar.specs.Records.{Rec}
 use Rattle.quanta_lexer.specs.Promise.{Promised}
-use Rattle.quanta_lexer.specs.Tokens.{Tok, Lexing, lexAll}
+use Rattle.quanta_lexer.specs.Tokens.{Tok, lexAll}
 use Rattle.quanta_lexer.specs.Tokenizing.{tokenizing}
 use Rattle.quanta_lexer.specs.declared.lexer.Answer.{Answer as OfBytes}
 use Rattle.quanta_lexer.specs.declared.lexer.Answer.the-variants as lexer
 use Rattle.quanta_lexer.proofs.Theorems.{accepted, short-small, refusals-small}
 use Rattle.quanta_grammar.specs.Productions.{Symbol}
 use Rattle.quanta_grammar.specs.Reading.{Call}
-use Rattle.quanta_grammar.specs.Refine.{Answer as OfTokens, accept, reject, answer, Derived}
+use Rattle.quanta_grammar.specs.Refine.{Answer as OfTokens, accept, reject, answer}
 use Rattle.quanta_grammar.proofs.Theorems.{few, answered}
 use Rattle.quanta_reading.specs.declared.answer.Answer.{Answer}
-use Rattle.quanta_reading.specs.Reading.{inRoom, parsed, lexed, Reading, answering, reading, Conforms}
+use Rattle.quanta_reading.specs.Reading.{inRoom, parsed, lexed, answering, reading, Conforms}
 use Rattle.quanta_reading.specs.Values.{FitsWord, Fits}
 use Rattle.quanta_reading.proofs.TokenWords.{closes, length-refine}
 

@@ -2,17 +2,20 @@
 -- Assumes nothing.
 use mathlib.Core.Path.{_≡_, ap, sym, _∙_}
 use mathlib.Core.List.{List}
-use Prim.Native.Nat.{ℕ}
+use Prim.Native.Nat.{ℕ, _/_, _≤_, _<_}
 use lib.ListN.{length}
+use Rattle.quanta_lexer.specs.Tokens.{lexAll}
 use Rattle.quanta_grammar.specs.Productions.{Symbol}
 use Rattle.quanta_grammar.specs.Reading.{Call}
 use Rattle.quanta_reading.specs.declared.answer.Answer.{Answer}
+use Rattle.quanta_reading.specs.declared.answer.Answer.the-variants.{Accepted, NoTokenRoom, NoTreeRoom}
 use Rattle.quanta_reading.specs.declared.outcome.Outcome.{Outcome}
-use Rattle.quanta_reading.specs.Reading.{Reading, reading, Conforms}
+use Rattle.quanta_reading.specs.Reading.{reading, Conforms}
 use Rattle.quanta_reading.specs.Demand3.{Enough, Exact}
 use Rattle.quanta_reading.specs.Values.{values, Fits, Exported}
 use Rattle.quanta_reading.specs.Rows.{rows, said, seen}
 use Rattle.quanta_reading.proofs.Lengths as Lengths
+use Rattle.quanta_reading.proofs.Needs as Needs
 use Rattle.quanta_reading.proofs.Faithful as Faithful
 use Rattle.quanta_reading.proofs.Numbers as Numbers
 use Rattle.quanta_reading.proofs.Rows as Rows
@@ -31,6 +34,17 @@ module _ {s : Symbol} {source table : List ℕ} {tokens tree : ℕ} where
 -- THE WORDS ARE ALL of both buffers.
 pub every-word : (s : Symbol) (source table : List ℕ) (tokens tree : ℕ) → (length (reading s source table tokens tree .tokens) ≡ tokens) × (length (reading s source table tokens tree .tree) ≡ tree)
 every-word = Lengths.every-word
+
+-- COUNTS AND NEEDS are those of the defined lists: the tokens, and the records that the grammar answers.
+module _ (s : Symbol) (source table : List ℕ) (tokens tree : ℕ) where
+  pub accepted-counts : (n m : ℕ) → reading s source table tokens tree .answer ≡ Accepted n m → (length (lexAll source table .toks) ≡ n) × Needs.Records s source table tokens tree m × (m ≤ tree / 6)
+  accepted-counts = Needs.accepted-counts s source table tokens tree
+
+  pub token-need : (n : ℕ) → reading s source table tokens tree .answer ≡ NoTokenRoom n → (length (lexAll source table .toks) ≡ n) × (tokens / 3 < n)
+  token-need = Needs.token-need s source table tokens tree
+
+  pub tree-need : (m : ℕ) → reading s source table tokens tree .answer ≡ NoTreeRoom m → Needs.Records s source table tokens tree m × (tree / 6 < m)
+  tree-need = Needs.tree-need s source table tokens tree
 
 -- DEMAND 3: with room for all, what conforms accepts exactly the sentences, and has the records of the one derivation.
 pub exact : {s : Symbol} → Call s → (source table : List ℕ) (tokens tree : ℕ) → Enough source table tokens tree → {r : Answer} {tokens′ tree′ : List ℕ}

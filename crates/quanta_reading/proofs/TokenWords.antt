@@ -1,22 +1,21 @@
 -- The words of the lexer's tokens: the parser may stand at their front, and reads them as the tokens that they came from.
 -- Assumes nothing.
 use mathlib.Core.Path.{_≡_, refl, ap, sym, _∙_}
-use mathlib.Core.List.{List, [], _∷_, _++_}
+use mathlib.Core.List.{List, [], _∷_}
 use Prim.Native.Nat.{ℕ, zero, suc, _+_, _-_, _*_, _≤_, _<_}
 use native.Mathlib.Omega.{arith}
-use mathlib.Core.Bool.{true, false, not, _&&_}
 use borrow.Author.Tests.{ne-eqb}
-use lib.Dec.{T, eqb}
+use lib.Dec.{T}
 use lib.ListN.{length, getD, take, replicate}
 use lib.Seq.{take-at}
-use Rattle.quanta_token.specs.TokenKind.{code, Ident, Eof}
+use Rattle.quanta_token.specs.TokenKind.{code, Eof}
 use Rattle.quanta_lexer.specs.Promise.{InOrder, eof, more, Promised}
-use Rattle.quanta_lexer.specs.Tokens.{Tok, Lexing, records, lexAll}
+use Rattle.quanta_lexer.specs.Tokens.{Tok, records, lexAll}
 use Rattle.quanta_lexer.specs.Tokenizing.{tokenizing, tokenWords}
 use Rattle.quanta_lexer.specs.declared.lexer.Answer.the-variants as lexer
 use Rattle.quanta_lexer.proofs.Theorems.{accepted, records-then-zeros}
 use Rattle.quanta_grammar.specs.Refine.{Plain, classify, ahead, refine, closed, Ordered}
-use Rattle.quanta_cursor.specs.Tokens.{size, kindAt, plainAt, run, plainFrom, from, Closed, Ready}
+use Rattle.quanta_cursor.specs.Tokens.{size, kindAt, plainAt, run, plainFrom, from, Ready}
 
 -- what stands behind the first token
 get-past : (k a e : ℕ) (ws : List ℕ) (i j : ℕ) → j ≡ suc (suc (suc i)) → getD (k ∷ a ∷ e ∷ ws) j 0 ≡ getD ws i 0
@@ -104,10 +103,7 @@ fronts s t words n e =
 -- tokens in order: Eof at the end and only there, and their spans in order
 pub closes : (b i : ℕ) (ts : List Tok) → InOrder b i ts → T (closed ts)
 closes b i ts (eof a p q) = tt
-closes b i ts (more k a e lo hi p q r (eof x y z)) = closes-more k (ne-eqb k (code Eof) (λ e. omega arith)) tt
-  where
-    closes-more : (k : ℕ) → eqb k (code Eof) ≡ false → T true → T (not (eqb k (code Eof)) && true)
-    closes-more k e h = rw e tt
+closes b i ts (more k a e lo hi p q r (eof x y z)) = rw (ne-eqb k (code Eof) (λ e. omega arith)) tt
 closes b i ts (more k a e lo hi p q r (more k′ a′ e′ lo′ hi′ p′ q′ r′ o)) = rw (ne-eqb k (code Eof) (λ e. omega arith)) (closes b e _ (more k′ a′ e′ lo′ hi′ p′ q′ r′ o))
 
 pub orders : (b i : ℕ) (ts : List Tok) → InOrder b i ts → Ordered i b ts

@@ -7,17 +7,18 @@ use Prim.Native.Nat.{ℕ, _+_, _-_, _*_, _≤_}
 use lib.ListN.{length, replicate}
 use Rattle.grammar.specs.Grammar.{Tok, yield, Lawful}
 use Rattle.grammar.specs.Records.{treeOf, nodes}
-use Rattle.grammar.specs.Facts.{Within, Tallied}
+use Rattle.grammar.specs.Facts.{Within, Tallied, OwnTokens, owning}
 use Rattle.utf8.specs.Utf8.{firstBad}
 use Rattle.utf8.specs.declared.Found.the-variants.{AllWell}
 use Rattle.quanta_source.specs.Source.{checked}
 use Rattle.quanta_source.specs.declared.source.Checked.the-variants.{Clean}
 use Rattle.quanta_words.specs.Words.{badIn}
 use Rattle.quanta_lexer.specs.Refusals.{sourceLimit, tableLimit}
-use Rattle.quanta_lexer.specs.Tokens.{Lexing, done, lexAll}
+use Rattle.quanta_lexer.specs.Tokens.{done, lexAll}
 use Rattle.quanta_grammar.specs.Productions.{Symbol, Derivation, outs}
 use Rattle.quanta_grammar.specs.Reading.{terms}
 use Rattle.quanta_grammar.specs.Measuring.{size}
+use Rattle.quanta_grammar.specs.OwnTokens.{ownKinds}
 use Rattle.quanta_grammar.specs.Refine.{refine}
 use Rattle.quanta_reading.specs.declared.answer.Answer.{Answer}
 use Rattle.quanta_reading.specs.declared.answer.Answer.the-variants.{Accepted}
@@ -52,7 +53,7 @@ pub record Sentence (s : Symbol) (source table : List ℕ) : Type 0 where
   pub spells : yield derivation ≡ tokensOf source table
   -- each assignment's target leaves the record of a name or of a field: parentheses leave none
   pub targets : Lawful terms derivation []
-  -- the measure
+  -- the measure, which quanta_grammar's MeasureLaws say in document 01's words
   pub measured : size derivation ≤ 64
 
 abbrev pub Accepts : Answer → Type 0
@@ -71,6 +72,9 @@ pub record Exact (s : Symbol) (source table : List ℕ) (tree : ℕ) (r : Answer
   pub nested : (x : Sentence s source table) → Within 0 (length source) (treeOf outs (x .derivation))
   -- a record's last number is the number of its children
   pub tallied : (x : Sentence s source table) → Tallied (treeOf outs (x .derivation))
+  -- its own token is one of the tokens, of a kind that document 01 says, and no other record's
+  pub owned : (x : Sentence s source table) → OwnTokens ownKinds (tokensOf source table) (treeOf outs (x .derivation))
+  pub distinct : (x : Sentence s source table) (n : ℕ) → owning n (nodes outs (x .derivation)) ≤ 1
 
 abbrev pub Faithful : Symbol → List ℕ → List ℕ → ℕ → ℕ → Answer → List ℕ → Type 0
 Faithful s source table tokens tree r words = Enough source table tokens tree → Exact s source table tree r words

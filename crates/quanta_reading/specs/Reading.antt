@@ -7,7 +7,7 @@ use Prim.Native.Nat.{ℕ, _-_, _*_, _/_}
 use lib.Dec.{ltb}
 use lib.ListN.{length, replicate}
 use Rattle.grammar.specs.Records.{Rec}
-use Rattle.quanta_lexer.specs.Tokens.{Lexing, lexAll}
+use Rattle.quanta_lexer.specs.Tokens.{lexAll}
 use Rattle.quanta_lexer.specs.Tokenizing.{tokenizing, tokenWords}
 use Rattle.quanta_lexer.specs.declared.lexer.Answer.{Answer as OfBytes}
 use Rattle.quanta_lexer.specs.declared.lexer.Answer.the-variants as lexer
@@ -50,6 +50,7 @@ treeWords words rs (NoTokenRoom n) = replicate words 0
 treeWords words rs (Syntax e) = replicate words 0
 treeWords words rs (NoTreeRoom m) = replicate words 0
 
+-- an answer, and the words of the token and the tree buffer
 pub record Reading : Type 0 where
   pub answer : Answer
   pub tokens : List ℕ

@@ -13,3 +13,10 @@ pub fn token_text<'a>(reader: Reader<'a>, kind: u32, start: usize, end: usize) -
 {
     text(reader.src, kind, start, end)
 }
+
+// The same from a plain slice, so that a caller needs no reader of its own.
+pub fn text_of(src: &[u8], kind: u32, start: usize, end: usize) -> &[u8]
+    ensures { λ r. ⌜ now r ≡ textOf (now (src .entry)) kind start end ⌝ }
+{
+    token_text(Reader { src: src }, kind, start, end)
+}

@@ -1,9 +1,9 @@
 -- `quanta_clause::decl::after_target` meets its contract: a duration or an expression.
 -- Assumes nothing.
 use mathlib.Core.Path.{refl}
-use mathlib.Core.Bool.{true, false}
+use mathlib.Core.Bool.{false}
 use Rattle.quanta_cursor.proofs.Meeting.{took-of, failed-of}
-use Rattle.quanta_clause.proofs.Clauses.{target-is, target-true, unit-ready, duration-took, value-took}
+use Rattle.quanta_clause.proofs.Clauses.{target-is, target-true, unit-ready, duration-target, value-took}
 use borrow.Author.Needs.{needs}
 use Rattle.quanta_clause.proofs.decl.after_target.Statement.{statement}
 use Rattle.quanta_clause.proofs.decl.after_target.Tie as tie
@@ -24,7 +24,7 @@ same-length : tie.Need-same-length
 same-length c = search needs
 
 returns : tie.Need-returns
-returns c = target-is true (c .before .before .before .before .before .before .before .before .before .before .before .before .before .before .before .before .is-duration .ensures) (c .before .before .before .before .before .before .before .before .before .before .before .before .before .before .before .if1 .taken) (duration-took (c .before .before .before .before .before .before .before .before .before .before .before .before .before .before .before .before .before .before .before .before .args .src .now) (c .before .before .before .before .before .before .before .before .before .before .before .before .before .before .before .before .before .before .before .before .args .tokens .now) (c .before .before .before .before .before .before .before .before .before .before .before .before .before .before .before .before .before .before .before .before .pre) (target-true (c .before .before .before .before .before .before .before .before .before .before .before .before .before .before .before .before .before .before .before .before .args .src .now) (c .before .before .before .before .before .before .before .before .before .before .before .before .before .before .before .before .before .before .before .before .args .tokens .now) (c .before .before .before .before .before .before .before .before .before .before .before .before .before .before .before .before .before .before .before .before .args .at .0) (c .before .before .before .before .before .before .before .before .before .before .before .before .before .before .before .before .is-duration .ensures) (c .before .before .before .before .before .before .before .before .before .before .before .before .before .before .before .if1 .taken)) (c .before .before .before .before .before .before .before .before .before .before .before .before .before .leaf .ensures .0) (c .before .before .before .before .before .before .before .leaf2 .ensures .0) (c .before .before .before .before .before .before .before .before .before .before .before .before .before .before .before .before .before .before .before .before .args .allowance) (c .before .before .before .before .before .before .before .before .before .before .before .before .before .leaf .ensures .1) (c .before .before .before .before .before .before .before .leaf2 .ensures .1) (c .join .ensures) refl)
+returns c = duration-target (c .before .before .before .before .before .before .before .before .before .before .before .before .before .before .before .before .before .before .before .before .pre) (c .before .before .before .before .before .before .before .before .before .before .before .before .before .before .before .before .is-duration .ensures) (c .before .before .before .before .before .before .before .before .before .before .before .before .before .before .before .if1 .taken) (c .before .before .before .before .before .before .before .before .before .before .before .before .before .leaf .ensures .0) (c .before .before .before .before .before .before .before .leaf2 .ensures .0) (c .before .before .before .before .before .before .before .before .before .before .before .before .before .leaf .ensures .1) (c .before .before .before .before .before .before .before .leaf2 .ensures .1) (c .join .ensures) refl
 
 expr-requires : tie.Need-expr-requires
 expr-requires c κs = search needs
