@@ -8,6 +8,7 @@ def says(fn): return f'`quanta_item::decl::{fn}` meets its contract.'
 def kept(*fs): return ' ∙ '.join('@'+f+(' .kept .1 .1 .0' if f in ('fields','param-list','clauses','field-decl') else ' .kept .1 .0') for f in fs)
 def at(x): return f'let z = {x} in (z .inside, z .closed .few)'
 CLOSED='(closes-as (@peek-span .ensures) (@close .ensures))'
+SEMI=CLOSED.replace('@close ','@close-semi ')
 TABLE={}
 # the two lists between braces: stmts for every source, fields for the one that is read
 def run(fn,e,el,law,l,bound,at):
@@ -20,7 +21,7 @@ def run(fn,e,el,law,l,bound,at):
     I=V('[]')[1:-1]
     ty=f"Rolling {l} src tokens allowance ({at}₀ .0) (no₀ .0) count₀ tree₀ ({at} .0) (no' .0) count tree"
     return dict(says=f'`quanta_item::decl::{fn}` meets its contract: what is under way at the start of its loop is under way at each turn.',
-     uses=['mathlib.Core.Path.{refl, _∙_}','mathlib.Core.List.{List, []}' if bound else '','Prim.Native.Nat.{ℕ, _-_}' if bound else 'Prim.Native.Nat.{_-_}',OM,'borrow.Author.Needs.{needs}',f'Rattle.quanta_grammar.specs.Productions.{{{l}}}','Rattle.quanta_cursor.specs.Tokens.{size}',C+'Meeting.{took-all, failed-all, took-of, failed-of}',C+f'Lists.{{{law}}}',C+'Listing.{Rolling, run-begun}',P+'Runs.{at-brace, at-eof, more-bad, more-on, more-less}'],
+     uses=['mathlib.Core.Path.{refl, _∙_}','mathlib.Core.List.{List, []}' if bound else '','Prim.Native.Nat.{ℕ, _-_}' if bound else 'Prim.Native.Nat.{_-_}',OM,'borrow.Author.Needs.{needs}',f'Rattle.quanta_grammar.specs.Productions.{{{l}}}','Rattle.quanta_cursor.specs.Tokens.{size}',C+'Meeting.{took-all, failed-all, took-of, failed-of}',C+f'Lists.{{{law}}}',C+'Listing.{Rolling, run-begun}',C+'Braces.{at-brace, at-eof, more-bad, more-on, more-less}'],
      inv={'Inv-loop':('(src : List ℕ) → ' if bound else '')+ty,'μ-loop':f'size tokens - {at} .0'},
      answers={
       'loop-holds':f'{b}run-begun {law} {A} (@pre)',
@@ -61,15 +62,15 @@ SMALL='ready-small (@pre .0)'
 ASSET=lambda s,a:key('asset',s,a)
 TABLE['decl/asset_decl']=dict(says=says('asset_decl'),uses=['mathlib.Core.Path.{refl}',NIL,Q+'{nodeCode, asset-node}',C+'Places.{ready-small}',C+'Meeting.{failed}',C+'Under.{closes-as}',P+'Items.{asset-key, unnamed, named, semi-shut}'],answers={
  'expect-ident-requires':f'{ASSET("[]","0")} .ready',
- 'close-requires':f'({named(ASSET("[]","0"))} .ready, {SMALL})',
+ 'close-semi-requires':f'({named(ASSET("[]","0"))} .ready, {SMALL})',
  'returns':f'λ src a. failed (unnamed {ASSET("src","a")} {EI} (@e .given .1))',
- 'returns-2':f'λ src a. semi-shut (nodeCode asset-node) refl {named(ASSET("src","a"))} refl {CLOSED}'})
+ 'returns-2':f'λ src a. semi-shut (nodeCode asset-node) refl {named(ASSET("src","a"))} refl {SEMI}'})
 IK=lambda s:key('invariant',s); ID=lambda s:f'(said {IK(s)} (@expr .ensures {s}) (@value .given .1))'
 TABLE['decl/invariant_decl']=dict(says=says('invariant_decl'),uses=['mathlib.Core.Path.{refl}',NIL,Q+'{nodeCode, invariant-node}',C+'Places.{ready-small}',C+'Meeting.{failed}',C+'Under.{closes-as}',P+'Items.{invariant-key, unsaid, said, semi-shut}'],answers={
  'expr-requires':f'{IK("[]")} .ready',
- 'close-requires':f'({ID("[]")} .ready, {SMALL})',
+ 'close-semi-requires':f'({ID("[]")} .ready, {SMALL})',
  'returns':f'λ src. failed (unsaid {IK("src")} (@expr .ensures src) (@e .given .1))',
- 'returns-2':f'λ src. semi-shut (nodeCode invariant-node) refl {ID("src")} refl {CLOSED}'})
+ 'returns-2':f'λ src. semi-shut (nodeCode invariant-node) refl {ID("src")} refl {SEMI}'})
 SK=key('state',SRC); SO=f'(opened {SK} (@expect .ensures) (@inside .given .1))'; SL=f'fields tt {SO} (@fields .ensures)'; SN=f'{SL} (@fields2 .given .1)'
 TABLE['decl/state_block']=dict(says=says('state_block'),uses=['mathlib.Core.Path.{refl}',Q+'{nodeCode, state-node}',G+'{fields}',C+'Places.{ready-small}',C+'Meeting.{failed}',C+'Under.{closes-as}',P+'Items.{state-key, unopened, opened, unlisted, listed-in, listed-count, by-itself, brace-shut}'],answers={
  'expect-requires':at(f'{SK} .ready'),
@@ -87,11 +88,11 @@ TABLE['decl/event_decl']=dict(says=says('event_decl'),uses=['mathlib.Core.Path.{
  'param-list-requires':f'{VN} .ready',
  'peek-span-requires':'@pre .0 .inside',
  'add-children':f'omega (arith, two-small {NF.format(key("event",SRC),EI)} {PA} (listed-in {VP} .ready))',
- 'close-requires':f'(listed-in {VP} .ready, {SMALL})',
+ 'close-semi-requires':f'(listed-in {VP} .ready, {SMALL})',
  'returns':f'failed (unnamed {key("event",SRC)} {EI} (@e .given .1))',
  'returns-2':f'failed (unlisted {VL} (@e2 .given .1))',
- 'same-length-3':kept('close','param-list','expect-ident'),
- 'returns-3':f'semi-shut (nodeCode event-node) refl (listed-in {VP}) (listed-count {VP}) {CLOSED}'})
+ 'same-length-3':kept('close-semi','param-list','expect-ident'),
+ 'returns-3':f'semi-shut (nodeCode event-node) refl (listed-in {VP}) (listed-count {VP}) {SEMI}'})
 GK=lambda s:key('genesis',s); GB=lambda s:f'(block-of (@body .given .1) (@block .ensures {s}))'
 TABLE['decl/genesis_block']=dict(says=says('genesis_block'),uses=['mathlib.Core.Path.{refl, sym}',NIL,'Rattle.grammar.specs.Records.{none}',Q+'{nodeCode, genesis-node}',C+'Meeting.{took, failed}',P+'Blocks.{block-of, block-failed-of, block-ready, block-count, bodiless, bodied}',P+'Items.{genesis-key, by-itself}'],answers={
  'block-requires':f'{GK("[]")} .ready',

@@ -38,7 +38,7 @@ TABLE={
   'returns-4':f'λ src a x. took-opt (signer-took {S(3,"src","a","x")} (@signer .given .1))'}),
 'decl/end_param':dict(says=says('end_param'),uses=['mathlib.Core.Path.{refl, ap}','Prim.Native.Nat.{_+_}','Rattle.quanta_grammar.specs.NodeKind.{nodeCode, param-node}','Rattle.quanta_cursor.specs.declared.parser.Node.{Node}','Rattle.quanta_cursor.specs.declared.parser.Parsed.the-variants as parsed',C+'Nodes.{node-is, words-are}'],answers={
   'returns':f'(ap (λ (m : Node). parsed.Node m) (node-is (nodeCode param-node) (@args .last .at .0) (@args .last .no .0 + 1) refl (@put .ensures .0) (@join .ensures)), words-are (nodeCode param-node) (@args .flag) (@args .name .at .0) (@args .count) (@args .last .no .0) {TR} (@join .ensures) (@put .ensures .1))'}),
-'decl/close_field':dict(says=says('close_field'),uses=[C+'Under.{closes-as}'],answers={'returns':'closes-as (@peek-span .ensures) (@close .ensures)'}),
+'decl/close_field':dict(says=says('close_field'),uses=[C+'Under.{closes-as}'],answers={'returns':'closes-as (@peek-span .ensures) (@close-semi .ensures)'}),
 'decl/field_decl':dict(says=says('field_decl'),uses=['mathlib.Core.Path.{refl, _∙_}',OM,C+'Meeting.{failed}',P+'Fields.{meta-ready, meta-few, field-nameless, named-ready, field-colonless, colon-ready, field-typeless, typed-ready, field-defaultless, field-plain, default-ready, field-valued}'],answers={
   'expect-ident-requires':f'meta-ready {F(0)}',
   'expect-requires':at(f'named-ready {F(2)}'),

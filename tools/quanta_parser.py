@@ -33,8 +33,8 @@ TABLE['program/import_names']=dict(says='`quanta_parser::program::import_names` 
    'same-length-3':f'@{e} .kept .1 .0',
    'returns-3':f'λ src t₀ a x. record {{ by = first-bad imports-law (@pre) (@{e} .ensures) (@e .given .1) src t₀ a x }}',
   })
-CLOSE=dict(returns='closes-as (@peek-span .ensures) (@close .ensures)')
-TABLE['program/close_import']=dict(says='`quanta_parser::program::close_import` meets its contract.',uses=[C+'Under.{closes-as}'],answers=CLOSE)
+def closing(f): return dict(returns=f'closes-as (@peek-span .ensures) (@{f} .ensures)')
+TABLE['program/close_import']=dict(says='`quanta_parser::program::close_import` meets its contract.',uses=[C+'Under.{closes-as}'],answers=closing('close-semi'))
 CH=['(@expect .ensures)','(@inside .given .1)','(@import-names .ensures)','(@names .given .1)','(@expect2 .ensures)','(@from .given .1)','(@expect3 .ensures)','(@path .given .1)','(@expect-str .ensures)','(@path2 .given .1)']
 def I(k,s='[]',a='0'): return f'{s} {WS} {a} (@pre .0) (@pre .1) (@bump .ensures) {TR} '+' '.join(CH[:k])
 def bad(law,k,e): return f'λ src a. failed ({law} {I(k,"src","a")} (@{e} .given .1))'
@@ -53,7 +53,7 @@ TABLE['program/import_decl']=dict(says='`quanta_parser::program::import_decl` me
 # A CONTRACT
 CH2=['(@expect-ident .ensures)','(@name .given .1)','(@expect .ensures)','(@inside .given .1)','(@items .ensures)','(@items2 .given .1)']
 def K(k): return f'{SRC} {WS} {A} (@pre .0) (@pre .1) (@bump .ensures) {TR} '+' '.join(CH2[:k])
-TABLE['program/close_contract']=dict(says='`quanta_parser::program::close_contract` meets its contract.',uses=[C+'Under.{closes-as}'],answers=CLOSE)
+TABLE['program/close_contract']=dict(says='`quanta_parser::program::close_contract` meets its contract.',uses=[C+'Under.{closes-as}'],answers=closing('close'))
 TABLE['program/contract']=dict(says='`quanta_parser::program::contract` meets its contract.',uses=['mathlib.Core.Path.{_∙_}',CODE%'Contract',C+'Places.{ready-small}',C+'Meeting.{failed}',P+'Parts.{keyword-past, contract-nameless, name-ready, contract-unopened, body-ready, contract-bad, full-ready, full-few, contract-met}'],answers={
   'bump-requires':'ready-small (@pre .0)',
   'expect-ident-requires':'keyword-past (code Contract) (λ u. u) (@pre .0) (@pre .1) (@bump .ensures)',
@@ -68,7 +68,7 @@ RUN=f'items-run {A} (@pre)'
 GO=f'{RUN} (@loop .inv) (@peek .ensures) (@if1 .taken) (@peek2 .ensures) (@if2 .taken)'
 ITEM='(took-of (@item .given .1) (@contract-item .ensures))'
 TABLE['program/items']=dict(says='`quanta_parser::program::items` meets its contract: what is under way at the start of its loop is under way at each turn.',
-  uses=['mathlib.Core.Path.{refl, _∙_}','Prim.Native.Nat.{_-_}',OM,NE,'Rattle.quanta_grammar.specs.Productions.{items}','Rattle.quanta_cursor.specs.Tokens.{size}',C+'Meeting.{took-of, failed-of, took-all, failed-all}',C+'Lists.{items-run}',C+'Listing.{Rolling, run-begun}','Rattle.quanta_item.proofs.Runs.{at-brace, at-eof, more-bad, more-on, more-less}'],
+  uses=['mathlib.Core.Path.{refl, _∙_}','Prim.Native.Nat.{_-_}',OM,NE,'Rattle.quanta_grammar.specs.Productions.{items}','Rattle.quanta_cursor.specs.Tokens.{size}',C+'Meeting.{took-of, failed-of, took-all, failed-all}',C+'Lists.{items-run}',C+'Listing.{Rolling, run-begun}','Rattle.quanta_cursor.proofs.Braces.{at-brace, at-eof, more-bad, more-on, more-less}'],
   inv={'Inv-loop':"Rolling items src tokens allowance (at₀ .0) (no₀ .0) count₀ tree₀ (at .0) (no' .0) count tree",'μ-loop':'size tokens - at .0'},
   answers={
    'enum-known-e':'search needs','enum-known-item':'search needs',

@@ -53,7 +53,7 @@ TABLE={
  'call-args-requires':NX('Emit','LParen'),
  'expect-requires-2':f'(ARGSREADY .inside, @pre .0 .closed .few)',
  'peek-span-requires':'@pre .0 .inside',
- 'add-children':f'let z = all-few ARGS in let y = ARGSREADY in omega (arith, y .fits, y .inside, y .closed .few)',
+ 'add-count':f'let z = all-few ARGS in let y = ARGSREADY in omega (arith, y .fits, y .inside, y .closed .few)',
  'close-semi-requires':f'(next-ready (code RParen) (λ u. u) ARGSREADY (@semi .given .1) (@expect2 .ensures), ready-small (@pre .0))',
  'returns':f'λ src. failed (emit-unnamed {EH} (@e .given .1))',
  'returns-2':f'λ src. failed (emit-unopened {EH} (@name .given .1) (@expect .ensures) (@e2 .given .1))',

@@ -18,7 +18,7 @@ use Rattle.quanta_grammar.specs.Refine.{Plain, textOf, textKind, wordKind, spel
 use Rattle.quanta_cursor.specs.declared.parser.Span.{Span}
 use Rattle.quanta_cursor.specs.Cursor.{spanAt}
 use Rattle.quanta_cursor.specs.Tokens.{size, kindAt, plainAt, run, plainFrom, fineAt, Closed}
-use Rattle.quanta_cursor.proofs.Places.{past-as}
+use Rattle.quanta_cursor.proofs.Places.{run-none, plain-at, past-as}
 use Rattle.quanta_type.proofs.Words.{text-kind, text-is}
 use Rattle.quanta_clause.specs.Units.{isUnit, isDuration}
 
@@ -110,18 +110,6 @@ pub some-duration : (src ws : List ℕ) (i : ℕ) {p : ℕ} {r : Bool} → kindA
 some-duration src ws i e q f = f ∙ ap (λ (j : ℕ). isUnit src ws j) q ∙ ap (λ (b : Bool). b && isUnit src ws (i + 1)) (sym (eq-eqb (kindAt ws i) (code Int) e))
 
 -- `AFTER` is of the finer kind before a duration
-run-at : (ws : List ℕ) (i n m : ℕ) → n ≡ suc m → run ws i n ≡ plainAt ws i ∷ run ws (suc i) m
-unfolding run
-run-at ws i n m e = rw e
-
-run-none : (ws : List ℕ) (i n : ℕ) → n ≡ 0 → run ws i n ≡ []
-unfolding run
-run-none ws i n e = rw e
-
-plain-at : (ws : List ℕ) (i : ℕ) → i < size ws → plainFrom ws i ≡ plainAt ws i ∷ plainFrom ws (suc i)
-unfolding plainFrom
-plain-at ws i h = run-at ws i (size ws - i) (size ws - suc i) (omega arith)
-
 plain-end : (ws : List ℕ) (i : ℕ) → size ws ≤ i → plainFrom ws i ≡ []
 unfolding plainFrom
 plain-end ws i h = run-none ws i (size ws - i) (omega arith)

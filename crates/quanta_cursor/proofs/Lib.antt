@@ -7,3 +7,4 @@ pub mod Lists
 pub mod Under
 pub mod WordLists
 pub mod Listing
+pub mod Braces

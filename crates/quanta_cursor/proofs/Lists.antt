@@ -9,31 +9,27 @@ use native.Mathlib.Omega.{arith}
 use lib.Dec.{T}
 use lib.ListN.{length, length-append}
 use Rattle.grammar.specs.Grammar.{Tok, head, next, one, sub, has, free}
-use Rattle.grammar.specs.Records.{Acc, Row, none, put, glue, count, records, fresh, nothing, word, pass, apart, Mark, leave, leafKind}
-use Rattle.grammar.specs.Fused.{Outcome, left, refused}
+use Rattle.grammar.specs.Records.{Acc, Row, none, put, glue, count, records, fresh, nothing, pass, apart, Mark}
+use Rattle.grammar.specs.Fused.{Outcome, left}
 use Rattle.grammar.proofs.Fuse.{onward, onward-onward}
 use Rattle.grammar.proofs.Lines.{mark}
 use Rattle.quanta_token.specs.TokenKind.{code, Comma}
-use Rattle.quanta_grammar.specs.Productions.{Symbol, outs, name, typeName}
-use Rattle.quanta_grammar.specs.Productions.{expr, param, typeArg, item, field, stmt, clause, moreArgs, moreParams, moreTypeArgs, moreNames, moreImports, items, fields, stmts, clauses}
+use Rattle.quanta_grammar.specs.Productions.{Symbol}
+use Rattle.quanta_grammar.specs.Productions.{expr, param, typeArg, item, field, stmt, clause, moreArgs, moreParams, moreTypeArgs, items, fields, stmts, clauses}
 use Rattle.quanta_grammar.specs.Guides.{closing, clauseStart}
-use Rattle.grammar.specs.Reader.{miss}
-use Rattle.quanta_grammar.specs.Reading.{targets, plan, missed, wanted, reads}
-use Rattle.quanta_grammar.specs.Refine.{plainKind, marking}
+use Rattle.quanta_grammar.specs.Reading.{targets, reads}
 use Rattle.quanta_grammar.proofs.Steps.{go}
-use Rattle.quanta_grammar.proofs.Loops.{Loop, element, comma-element, comma-word, comma-miss, names-loop, import-names-loop, arguments-loop, params-loop, type-args-loop, clauses-loop, items-loop, fields-loop, stmts-loop}
+use Rattle.quanta_grammar.proofs.Loops.{Loop, element, comma-element, arguments-loop, params-loop, type-args-loop, clauses-loop, items-loop, fields-loop, stmts-loop}
 use Rattle.quanta_cursor.specs.declared.parser.Node.{Node}
 use Rattle.quanta_cursor.specs.declared.parser.Nodes.{Nodes}
 use Rattle.quanta_cursor.specs.declared.parser.Refusal.{Refusal}
-use Rattle.quanta_cursor.specs.Tokens.{size, kindAt, from, fineAt, tokAt, Closed, Ready}
-use Rattle.quanta_cursor.specs.Tree.{putRec, Laid}
+use Rattle.quanta_cursor.specs.Tokens.{size, kindAt, from, fineAt, tokAt, Ready}
+use Rattle.quanta_cursor.specs.Tree.{Laid}
 use Rattle.quanta_cursor.specs.Answers.{Failed, Took, TookAll}
 use Rattle.quanta_cursor.specs.Lists.{grown}
-use Rattle.quanta_cursor.specs.Cursor.{errAt, leafRec}
-use Rattle.quanta_cursor.proofs.Sets.{coarse, fine-in, fine-out, fine-kind, is-one, not-one}
-use Rattle.quanta_cursor.proofs.Places.{from-at, laid-none, laid-glue, laid-word}
+use Rattle.quanta_cursor.proofs.Sets.{fine-in, fine-out, is-one, not-one}
+use Rattle.quanta_cursor.proofs.Places.{from-at, laid-none, laid-glue}
 use Rattle.quanta_cursor.proofs.Meeting.{failed-onward}
-use Rattle.quanta_cursor.proofs.Doing.{shows}
 
 glue-glue : (x y z : Row) → glue x (glue y z) ≡ glue (glue x y) z
 glue-glue x y none = refl
@@ -105,30 +101,6 @@ fields-run = run-by fields field tt (λ k. not (has closing k)) fields-loop
 pub stmts-run : Run stmts stmt (λ k. not (has closing k))
 stmts-run = run-by stmts stmt tt (λ k. not (has closing k)) stmts-loop
 
--- .. or a word behind each comma
-pub record Naming (l : Symbol) (cs : List ℕ) : Type 0 where
-  pub stop : (a : ℕ) (ts : List Tok) (x : Acc) → (T (has (code Comma ∷ []) (next ts)) → ⊥) → reads l a ts x ≡ left x ts
-  pub on : (a : ℕ) (t u : Tok) (ts : List Tok) (x : Acc) → T (has (code Comma ∷ []) (t .kind)) → T (has cs (u .kind)) → reads l a (t ∷ (u ∷ ts)) x ≡ reads l a ts (leave outs word apart u x)
-  pub lack : (a : ℕ) (t u : Tok) (ts : List Tok) (x : Acc) → T (has (code Comma ∷ []) (t .kind)) → (T (has cs (u .kind)) → ⊥) → reads l a (t ∷ (u ∷ ts)) x ≡ refused (miss plan cs (u ∷ ts))
-
-naming-by : (l : Symbol) (cs : List ℕ) → Loop l (has (code Comma ∷ [])) free (λ a ts x. go (head ts) (skip ∷ mark word pass apart [] ∷ []) (one (code Comma ∷ []) ∷ one cs ∷ []) a ts x) → Naming l cs
-naming-by l cs loop =
-    record {
-      stop = loop .stop;
-      on = λ a t u ts x h k. loop .on a (t ∷ (u ∷ ts)) x h zero-le
-          ∙ ap (λ (b : ℕ). onward (go t (skip ∷ mark word pass apart [] ∷ []) (one (code Comma ∷ []) ∷ one cs ∷ []) b (t ∷ (u ∷ ts)) x) (λ y r. reads l b r y)) (sub-zero a)
-          ∙ ap (λ (o : Outcome). onward o (λ y r. reads l a r y)) (comma-word cs a t u ts x h k);
-      lack = λ a t u ts x h k. loop .on a (t ∷ (u ∷ ts)) x h zero-le
-          ∙ ap (λ (b : ℕ). onward (go t (skip ∷ mark word pass apart [] ∷ []) (one (code Comma ∷ []) ∷ one cs ∷ []) b (t ∷ (u ∷ ts)) x) (λ y r. reads l b r y)) (sub-zero a)
-          ∙ ap (λ (o : Outcome). onward o (λ y r. reads l a r y)) (comma-miss cs a t u ts x h k);
-    }
-
-pub names-naming : Naming moreNames name
-names-naming = naming-by moreNames name names-loop
-
-pub import-naming : Naming moreImports typeName
-import-naming = naming-by moreImports typeName import-names-loop
-
 -- A LIST UNDER WAY: o is what comes of the rest of it at p, on top of x and of c records that are written
 pub record Rolls (l : Symbol) (o : Outcome) (src ws t : List ℕ) (n : ℕ) (x : Acc) (a p q c : ℕ) (tree : List ℕ) : Type 0 where
   pub row : Row
@@ -186,38 +158,6 @@ module _ {l : Symbol} {o : Outcome} {src ws t : List ℕ} {n : ℕ} {x : Acc} {a
     pub comma-stop : (kindAt ws p ≡ code Comma → ⊥) → o ≡ left (grown x (g .row)) (from src ws p)
     comma-stop v =
         g .so ∙ law .stop a (from src ws p) (grown x (g .row)) (λ t. fine-out (code Comma ∷ []) tt src ws p (not-one (code Comma) v) (subst (λ (ts : List Tok). T (has (code Comma ∷ []) (next ts))) (from-at src ws p h) t))
-
-  -- one more word, of the kind k
-  module _ {cs : List ℕ} (law : Naming l cs) (b : T (coarse cs)) (h : p < size ws) (h′ : p + 1 < size ws) (v : kindAt ws p ≡ code Comma) where
-    two : reads l a (from src ws p) (grown x (g .row)) ≡ reads l a (tokAt src ws p ∷ (tokAt src ws (p + 1) ∷ from src ws (p + 1 + 1))) (grown x (g .row))
-    two = ap (λ (ts : List Tok). reads l a ts (grown x (g .row))) (from-at src ws p h ∙ ap (λ (ts : List Tok). tokAt src ws p ∷ ts) (from-at src ws (p + 1) h′))
-
-    comma : T (has (code Comma ∷ []) (fineAt src ws p))
-    comma = fine-in (code Comma ∷ []) tt src ws p (is-one (code Comma) v)
-
-    pub name-on : {k p′ q′ c′ : ℕ} {tree′ : List ℕ} → T (has cs (kindAt ws (p + 1))) → leafKind (outs .leafs) (kindAt ws (p + 1)) ≡ k → p′ ≡ p + 1 + 1 → q′ ≡ q + 1 → c′ ≡ c + 1 → tree′ ≡ putRec tree q (leafRec ws (p + 1) k)
-        → Rolls l o src ws t n x a p′ q′ c′ tree′
-    name-on {k} {p′} {q′} {c′} {tree′} w d e f i y =
-        record {
-          row = put (g .row) (leafRec ws (p + 1) k) none;
-          so = g .so ∙ two ∙ law .on a (tokAt src ws p) (tokAt src ws (p + 1)) (from src ws (p + 1 + 1)) (grown x (g .row)) comma (fine-in cs b src ws (p + 1) w)
-              ∙ ap (λ (j : ℕ). reads l a (from src ws (p + 1 + 1)) (grown x (put (g .row) (leafRec ws (p + 1) j) none))) (fine-kind (leafKind (outs .leafs)) refl refl refl src ws (p + 1) ∙ d)
-              ∙ ap (λ (j : ℕ). reads l a (from src ws j) (grown x (put (g .row) (leafRec ws (p + 1) k) none))) (sym e);
-          many = let z = g .many in omega arith;
-          laid = laid-word (leafRec ws (p + 1) k) (g .laid) y f;
-        }
-
-    pub name-bad : {e : Refusal} → Closed ws → (T (has cs (kindAt ws (p + 1))) → ⊥) → T (marking (missed cs)) → e ≡ errAt ws (p + 1) (missed cs) (plainKind (wanted cs)) → Failed o e
-    name-bad z w m y =
-        record {
-          refusal = record { number = missed cs; at = tokAt src ws (p + 1); wanted = wanted cs };
-          gave = g .so ∙ two ∙ law .lack a (tokAt src ws p) (tokAt src ws (p + 1)) (from src ws (p + 1 + 1)) (grown x (g .row)) comma (fine-out cs b src ws (p + 1) w);
-          says = y ∙ shows src (p + 1) z h′ (missed cs) (wanted cs) m;
-        }
-
-  pub names-stop : {cs : List ℕ} (law : Naming l cs) → p < size ws → (kindAt ws p ≡ code Comma → ⊥) → o ≡ left (grown x (g .row)) (from src ws p)
-  names-stop law h v =
-      g .so ∙ law .stop a (from src ws p) (grown x (g .row)) (λ t. fine-out (code Comma ∷ []) tt src ws p (not-one (code Comma) v) (subst (λ (ts : List Tok). T (has (code Comma ∷ []) (next ts))) (from-at src ws p h) t))
 
 -- a list by itself, at its end
 pub rolled : {l : Symbol} {o : Outcome} {src ws t : List ℕ} {n a : ℕ} {r : Nodes} {tree : List ℕ} (g : Rolls l o src ws t n fresh a (r .at .0) (r .no .0) (r .count) tree)

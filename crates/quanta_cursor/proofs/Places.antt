@@ -25,11 +25,11 @@ use Rattle.quanta_cursor.specs.declared.parser.Node.{Node}
 use Rattle.quanta_cursor.specs.declared.parser.Nodes.{Nodes}
 
 -- TOKENS BY PLACES
-run-at : (ws : List ℕ) (i n m : ℕ) → n ≡ suc m → run ws i n ≡ plainAt ws i ∷ run ws (suc i) m
+pub run-at : (ws : List ℕ) (i n m : ℕ) → n ≡ suc m → run ws i n ≡ plainAt ws i ∷ run ws (suc i) m
 unfolding run
 run-at ws i n m e = rw e
 
-plain-at : (ws : List ℕ) (i : ℕ) → i < size ws → plainFrom ws i ≡ plainAt ws i ∷ plainFrom ws (suc i)
+pub plain-at : (ws : List ℕ) (i : ℕ) → i < size ws → plainFrom ws i ≡ plainAt ws i ∷ plainFrom ws (suc i)
 unfolding plainFrom
 plain-at ws i h = run-at ws i (size ws - i) (size ws - suc i) (omega arith)
 
@@ -53,7 +53,7 @@ pub from-length : (src ws : List ℕ) (i : ℕ) → length (from src ws i) ≡ s
 unfolding from plainFrom
 from-length src ws i = ahead-length src i (plainFrom ws i) ∙ run-length ws i (size ws - i)
 
-run-none : (ws : List ℕ) (i n : ℕ) → n ≡ 0 → run ws i n ≡ []
+pub run-none : (ws : List ℕ) (i n : ℕ) → n ≡ 0 → run ws i n ≡ []
 unfolding run
 run-none ws i n e = rw e
 

@@ -61,7 +61,7 @@ abbrev pub leaves : List ℕ → ℕ → Bool
 leaves [] k = true
 leaves (c ∷ cs) k = eqb (leafKind (outs .leafs) c) k && leaves cs k
 
-leaf-of : (cs : List ℕ) (k j : ℕ) → T (leaves cs k) → T (has cs j) → leafKind (outs .leafs) j ≡ k
+pub leaf-of : (cs : List ℕ) (k j : ℕ) → T (leaves cs k) → T (has cs j) → leafKind (outs .leafs) j ≡ k
 leaf-of [] k j l t = absurd t
 leaf-of (c ∷ cs) k j l t =
     let b = both (eqb (leafKind (outs .leafs) c) k) (leaves cs k) l in

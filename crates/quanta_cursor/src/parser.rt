@@ -315,5 +315,16 @@ pub fn close_semi(
     requires { ⌜ Ready (now tokens) (at .0) (no .0) × (own .0 < 4294967296) ⌝ }
     ensures { λ r. ⌜ Closes (now (tokens .entry)) (now (tree .entry)) (code Semi) (at .0) (no .0) kind flag (own .0) span children r (now (tree .exit)) ⌝ }
 {
-    close(tokens, tree, token::SEMI, at, no, kind, flag, own, span, children)
+    close(
+        tokens,
+        tree,
+        token::SEMI,
+        at,
+        no,
+        kind,
+        flag,
+        own,
+        span,
+        children,
+    )
 }

@@ -14,6 +14,7 @@ use quanta_cursor::parser::Span;
 use quanta_cursor::parser::TokenPos;
 use quanta_cursor::parser::bump;
 use quanta_cursor::parser::close;
+use quanta_cursor::parser::close_semi;
 use quanta_cursor::parser::err;
 use quanta_cursor::parser::expect;
 use quanta_cursor::parser::expect_ident;
@@ -82,18 +83,7 @@ fn asset_decl(tokens: &[u32], tree: &mut [u32], at: TokenPos, no: RecordNo) -> P
             let semi = name.at;
             let no = name.no;
             let span = peek_span(tokens, at);
-            close(
-                tokens,
-                tree,
-                token::SEMI,
-                semi,
-                no,
-                node::ASSET,
-                0,
-                at,
-                span,
-                1,
-            )
+            close_semi(tokens, tree, semi, no, node::ASSET, 0, at, span, 1)
         }
     }
 }
@@ -200,18 +190,7 @@ fn invariant_decl(
             let semi = value.at;
             let no = value.no;
             let span = peek_span(tokens, at);
-            close(
-                tokens,
-                tree,
-                token::SEMI,
-                semi,
-                no,
-                node::INVARIANT,
-                0,
-                at,
-                span,
-                1,
-            )
+            close_semi(tokens, tree, semi, no, node::INVARIANT, 0, at, span, 1)
         }
     }
 }
@@ -239,18 +218,7 @@ fn event_decl(
                     let no = params.no;
                     let span = peek_span(tokens, at);
                     let children = params.count + 1;
-                    close(
-                        tokens,
-                        tree,
-                        token::SEMI,
-                        semi,
-                        no,
-                        node::EVENT,
-                        0,
-                        at,
-                        span,
-                        children,
-                    )
+                    close_semi(tokens, tree, semi, no, node::EVENT, 0, at, span, children)
                 }
             }
         }

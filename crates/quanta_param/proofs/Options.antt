@@ -28,11 +28,11 @@ use Rattle.quanta_cursor.specs.Tokens.{size, kindAt, from, fineAt, tokAt, Ready
 use Rattle.quanta_cursor.specs.Tree.{recOf, Laid}
 use Rattle.quanta_cursor.specs.Answers.{single, Failed, Meets}
 use Rattle.quanta_cursor.specs.Cursor.{errAt, Expects}
-use Rattle.quanta_cursor.proofs.Sets.{coarse, is-one, not-one}
+use Rattle.quanta_cursor.proofs.Sets.{coarse, fine-in, is-one, not-one}
 use Rattle.quanta_cursor.proofs.Places.{past-as, laid-glue, ready-past}
 use Rattle.quanta_cursor.proofs.Meeting.{took, next-of, lacks-of}
 use Rattle.quanta_cursor.proofs.Doing.{Doing, eat, lack, fold-in, over, ends}
-use Rattle.quanta_cursor.proofs.Under.{Under, leaves, worded, eat-word, folded, unfolded}
+use Rattle.quanta_cursor.proofs.Under.{leaf-of, Under, leaves, worded, eat-word, folded, unfolded}
 use Rattle.quanta_param.specs.declared.decl.Eaten.{Eaten}
 use Rattle.quanta_param.specs.declared.decl.Opted.{Opted}
 use Rattle.quanta_param.specs.declared.decl.Opted.the-variants as opted
@@ -119,24 +119,10 @@ module _ {o : Outcome} {src ws : List ℕ} {t₀ : Tok} {ms : List Mark} {is : I
   opt-bad e = unfolded u (opt-failed-of e (v x))
 
 -- A WORD with the steps behind it
-leaf-kind : (src ws : List ℕ) (p : ℕ) (c : List ℕ) (k : ℕ) → T (coarse c) → T (leaves c k) → p < size ws → T (has c (kindAt ws p)) → leafKind (outs .leafs) (fineAt src ws p) ≡ k
-leaf-kind src ws p c k f l h w = ap kindOf (sym (over (eat begun f h w refl)) ∙ over (eat-word c k begun f l h w))
-  where
-    begun : Doing (go (tokAt src ws p) (mark word pass apart [] ∷ []) (one c ∷ []) 0 (from src ws p) fresh) src ws (tokAt src ws p) (mark word pass apart [] ∷ []) (one c ∷ []) 0 p fresh
-    begun = record { so = refl }
-
-    topOf : Row → ℕ
-    topOf none = 0
-    topOf (put b r ks) = r .kind
-
-    kindOf : Outcome → ℕ
-    kindOf (left y ts) = topOf (y .row)
-    kindOf (refused e) = 0
-
 pub eat-word-then : {o : Outcome} {src ws : List ℕ} {t₀ : Tok} {ms : List Mark} {is : Items grammar} {a p : ℕ} {x : Acc} {r : Reach} {ss : List Step} (c : List ℕ) (k : ℕ) → Doing o src ws t₀ (mark word pass r ss ∷ ms) (one c ∷ is) a p x → T (coarse c) → T (leaves c k) → p < size ws
     → T (has c (kindAt ws p)) → Doing o src ws t₀ ms is a (p + 1) (finish outs t₀ ss (worded r k ws p x))
 eat-word-then {o} {src} {ws} {t₀} {ms} {is} {a} {p} {x} {r} {ss} c k d f l h w =
-    subst (λ (k : ℕ). Doing o src ws t₀ ms is a (p + 1) (finish outs t₀ ss (worded r k ws p x))) (leaf-kind src ws p c k f l h w) (eat d f h w refl)
+    subst (λ (k : ℕ). Doing o src ws t₀ ms is a (p + 1) (finish outs t₀ ss (worded r k ws p x))) (leaf-of c k (fineAt src ws p) l (fine-in c f src ws p w)) (eat d f h w refl)
 
 -- A RECORD THAT NO TOKEN CLOSES: the last part goes on with what is left so far, and the steps behind it make the record of all
 pub ended-by : {o : Outcome} {src ws : List ℕ} {t₀ : Tok} {y : Leaf} {r : Reach} {ss : List Step} {s : Symbol} {a p : ℕ} {x z : Acc} {t : List ℕ} {n : ℕ} {tree : List ℕ} {m : Parsed} {t′ : List ℕ} {kind flag own count : ℕ} (e : Span) (last : Node)

@@ -11,7 +11,7 @@ use quanta_cursor::parser::RecordNo;
 use quanta_cursor::parser::Refusal;
 use quanta_cursor::parser::TokenPos;
 use quanta_cursor::parser::bump;
-use quanta_cursor::parser::close;
+use quanta_cursor::parser::close_semi;
 use quanta_cursor::parser::expect;
 use quanta_cursor::parser::expect_ident;
 use quanta_cursor::parser::peek;
@@ -121,18 +121,7 @@ fn close_field(
     let at = last.at;
     let no = last.no;
     let span = peek_span(tokens, start);
-    close(
-        tokens,
-        tree,
-        token::SEMI,
-        at,
-        no,
-        node::FIELD,
-        flag,
-        colon,
-        span,
-        count,
-    )
+    close_semi(tokens, tree, at, no, node::FIELD, flag, colon, span, count)
 }
 
 pub fn param_list(

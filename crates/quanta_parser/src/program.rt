@@ -13,6 +13,7 @@ use quanta_cursor::parser::Span;
 use quanta_cursor::parser::TokenPos;
 use quanta_cursor::parser::bump;
 use quanta_cursor::parser::close;
+use quanta_cursor::parser::close_semi;
 use quanta_cursor::parser::expect;
 use quanta_cursor::parser::expect_ident;
 use quanta_cursor::parser::expect_import_name;
@@ -178,18 +179,7 @@ fn close_import(tokens: &[u32], tree: &mut [u32], own: TokenPos, count: u32, pat
     let at = path.at;
     let no = path.no;
     let span = peek_span(tokens, own);
-    close(
-        tokens,
-        tree,
-        token::SEMI,
-        at,
-        no,
-        node::IMPORT,
-        0,
-        own,
-        span,
-        count,
-    )
+    close_semi(tokens, tree, at, no, node::IMPORT, 0, own, span, count)
 }
 
 fn contract(

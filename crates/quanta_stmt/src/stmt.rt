@@ -134,8 +134,8 @@ fn emit_stmt(
                             Expected::Refused(e) => Parsed::Refused(e),
                             Expected::Next(semi) => {
                                 let span = peek_span(tokens, at);
-                                let children = args.count + 1;
-                                close_semi(tokens, tree, semi, no, node::EMIT, 0, at, span, children)
+                                let count = args.count + 1;
+                                close_semi(tokens, tree, semi, no, node::EMIT, 0, at, span, count)
                             }
                         }
                     }

@@ -40,7 +40,7 @@ module _ (p : ℕ → Bool) where
   run-le (x ∷ xs) = le-step (p x) (run p xs) (length xs) (run-le xs)
 
   passes-step :
-    (x : ℕ) (xs : List ℕ) (t : Bool) → p x ≡ t → ((k : ℕ) → k < run p xs → p (getD xs k 0) ≡ true)
+      (x : ℕ) (xs : List ℕ) (t : Bool) → p x ≡ t → ((k : ℕ) → k < run p xs → p (getD xs k 0) ≡ true)
       → (k : ℕ) → k < cond t (suc (run p xs)) 0 → p (getD (x ∷ xs) k 0) ≡ true
   passes-step x xs true e all zero h = e
   passes-step x xs true e all (suc k) h = all k (le-of-suc-le-suc h)
@@ -98,19 +98,19 @@ module _ (n : ℕ) (l : List ℕ) where
   Passed left at = (at ≤ length l) × (behind left (drop at l) ≡ behind n l)
 
   behind-at :
-    (left at : ℕ) → at < length l → (left ≡ 0 → ⊥)
+      (left at : ℕ) → at < length l → (left ≡ 0 → ⊥)
       → behind left (drop at l) ≡ behind (cond (eqb (getD l at 0) BLANK) (left - 1) left) (drop (at + 1) l)
   unfolding behind
   behind-at left at h z = ap (behind left) (next l at h) ∙ rw (ne-eqb left 0 z)
 
   pub passed-blank :
-    (left more at : ℕ) → at < length l → (left ≡ 0 → ⊥) → getD l at 0 ≡ BLANK → more ≡ left - 1 → Passed left at → Passed more (at + 1)
+      (left more at : ℕ) → at < length l → (left ≡ 0 → ⊥) → getD l at 0 ≡ BLANK → more ≡ left - 1 → Passed left at → Passed more (at + 1)
   passed-blank left more at h z b e k =
       let step = rw (eq-eqb (getD l at 0) BLANK b) at (behind-at left at h z) in
       (omega arith, ap (λ (u : ℕ). behind u (drop (at + 1) l)) e ∙ sym step ∙ k .1)
 
   pub passed-other :
-    (left more at : ℕ) → at < length l → (left ≡ 0 → ⊥) → (getD l at 0 ≡ BLANK → ⊥) → more ≡ left → Passed left at → Passed more (at + 1)
+      (left more at : ℕ) → at < length l → (left ≡ 0 → ⊥) → (getD l at 0 ≡ BLANK → ⊥) → more ≡ left → Passed left at → Passed more (at + 1)
   passed-other left more at h z b e k =
       let step = rw (ne-eqb (getD l at 0) BLANK b) at (behind-at left at h z) in
       (omega arith, ap (λ (u : ℕ). behind u (drop (at + 1) l)) e ∙ sym step ∙ k .1)
@@ -179,7 +179,7 @@ module _ (l : List ℕ) where
     times-one h = rw (← e, eq-eqb n (length l) h)
 
     pub times-star :
-      (v : ℕ) → (n ≡ length l → ⊥) → getD l n 0 ≡ STAR → v ≡ numberOf (take (length l - (n + 1)) (drop (n + 1) l)) → v ≡ timesOf l
+        (v : ℕ) → (n ≡ length l → ⊥) → getD l n 0 ≡ STAR → v ≡ numberOf (take (length l - (n + 1)) (drop (n + 1) l)) → v ≡ timesOf l
     unfolding timesOf
     times-star v h s g = g ∙ ap numberOf (tail l (n + 1)) ∙ rw (← e, ne-eqb n (length l) h, eq-eqb (getD l n 0) STAR s)
 
@@ -196,7 +196,7 @@ module _ (l : List ℕ) where
     size-odd a b z o = rw (← e, le-ltb 65535 (length l) a, b, ne-eqb n 0 z, ne-eqb (n % 2) 0 o)
 
     pub size-some :
-      (t : ℕ) → length l ≤ 65535 → isNone l ≡ false → (n ≡ 0 → ⊥) → n % 2 ≡ 0 → t ≡ timesOf l → n / 2 * t ≡ sizeOf l
+        (t : ℕ) → length l ≤ 65535 → isNone l ≡ false → (n ≡ 0 → ⊥) → n % 2 ≡ 0 → t ≡ timesOf l → n / 2 * t ≡ sizeOf l
     unfolding sizeOf
     size-some t a b z o g = rw (← e, le-ltb 65535 (length l) a, b, ne-eqb n 0 z, eq-eqb (n % 2) 0 o, ← g)
 
@@ -235,7 +235,7 @@ module _ (l : List ℕ) where
         omega (arith, mod-lt k some-left)
 
     pub fill-more :
-      (out : List ℕ) (v : ℕ) → k < length out → v ≡ byteAt l (k % (n / 2)) → Filled l k out → Filled l (k + 1) (set out k v)
+        (out : List ℕ) (v : ℕ) → k < length out → v ≡ byteAt l (k % (n / 2)) → Filled l k out → Filled l (k + 1) (set out k v)
     fill-more out v h g all =
         below-more
         (λ (j : ℕ). getD (set out k v) j 0 ≡ byteAt l (j % (digitsOf l / 2)))

@@ -1,11 +1,11 @@
 // A reading: the call that a line asks for, and whether it answers what the line has stored.
 use crate::report;
-use quanta_reading::outcome::Outcome;
 use quanta::export::quanta_parse;
 use quanta::export::quanta_parse_expr;
 use quanta::export::quanta_parse_item;
 use quanta::export::quanta_parse_stmt;
 use quanta::export::quanta_parse_type;
+use quanta_reading::outcome::Outcome;
 use quanta_stored::line::field;
 use quanta_stored::line::fill;
 use quanta_stored::line::find;
@@ -113,14 +113,7 @@ fn call_differs(
     }
     let t = token_words as usize;
     let r = tree_words as usize;
-    let came = ask(
-        call,
-        line,
-        words,
-        source,
-        &mut tokens[..t],
-        &mut tree[..r],
-    );
+    let came = ask(call, line, words, source, &mut tokens[..t], &mut tree[..r]);
     if has_stored(line, &came) {
         return false;
     }
@@ -150,13 +143,7 @@ fn line_differs(
 }
 
 // Replays each line of a list, and counts.
-pub fn all(
-    list: &[u8],
-    words: &mut [u8],
-    source: &mut [u8],
-    tokens: &mut [u32],
-    tree: &mut [u32],
-) {
+pub fn all(list: &[u8], words: &mut [u8], source: &mut [u8], tokens: &mut [u32], tree: &mut [u32]) {
     let mut lines: u64 = 0;
     let mut differing: u64 = 0;
     let mut at = 0;

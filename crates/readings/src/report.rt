@@ -4,6 +4,8 @@ use crate::replay::CALL;
 use quanta_show::print_number;
 use quanta_stored::line::field;
 use quanta_stored::line::rest;
+ghost use mathlib.Core.Path.{_≡_};
+ghost use mathlib.Core.Bool.{true};
 
 const OUT: i32 = 1;
 
@@ -16,7 +18,9 @@ fn place(no: u64, line: &[u8]) {
 }
 
 // A line that no call can be made of.
-pub fn malformed(no: u64, line: &[u8]) -> bool {
+pub fn malformed(no: u64, line: &[u8]) -> bool
+    ensures { λ r. ⌜ r ≡ true ⌝ }
+{
     place(no, line);
     io::write_all(OUT, b": malformed\n");
     true
@@ -32,7 +36,9 @@ fn numbers(came: &[u64; 10]) {
 }
 
 // A line whose call answers something else.
-pub fn different(no: u64, line: &[u8], came: &[u64; 10]) -> bool {
+pub fn different(no: u64, line: &[u8], came: &[u64; 10]) -> bool
+    ensures { λ r. ⌜ r ≡ true ⌝ }
+{
     place(no, line);
     io::write_all(OUT, b": stored ");
     io::write_all(OUT, rest(line, ANSWER));

@@ -26,8 +26,8 @@ enum-known-name c = search needs
 peek-span-requires : tie.Need-peek-span-requires
 peek-span-requires c κs = search needs
 
-close-requires : tie.Need-close-requires
-close-requires c κs = ((named (asset-key [] (c .before .before .before .before .before .before .before .before .before .before .before .before .before .before .args .tokens .now) 0 (c .before .before .before .before .before .before .before .before .before .before .before .before .before .before .pre .0) (c .before .before .before .before .before .before .before .before .before .before .bump .ensures) (c .before .before .before .before .before .before .before .before .before .before .before .before .before .before .args .tree .now) (c .before .before .before .before .before .before .before .before .before .before .before .before .before .before .pre .1)) (c .before .before .before .before .before .before .before .before .before .expect-ident .ensures) (c .before .before .before .before .before .name .given .1)) .ready, ready-small (c .before .before .before .before .before .before .before .before .before .before .before .before .before .before .pre .0))
+close-semi-requires : tie.Need-close-semi-requires
+close-semi-requires c κs = ((named (asset-key [] (c .before .before .before .before .before .before .before .before .before .before .before .before .before .before .args .tokens .now) 0 (c .before .before .before .before .before .before .before .before .before .before .before .before .before .before .pre .0) (c .before .before .before .before .before .before .before .before .before .before .bump .ensures) (c .before .before .before .before .before .before .before .before .before .before .before .before .before .before .args .tree .now) (c .before .before .before .before .before .before .before .before .before .before .before .before .before .before .pre .1)) (c .before .before .before .before .before .before .before .before .before .expect-ident .ensures) (c .before .before .before .before .before .name .given .1)) .ready, ready-small (c .before .before .before .before .before .before .before .before .before .before .before .before .before .before .pre .0))
 
 same-length : tie.Need-same-length
 same-length c = search needs
@@ -39,7 +39,7 @@ same-length-2 : tie.Need-same-length-2
 same-length-2 c = search needs
 
 returns-2 : tie.Need-returns-2
-returns-2 c = λ src a. semi-shut (nodeCode asset-node) refl (named (asset-key src (c .before .before .before .before .before .before .before .before .before .before .before .before .before .before .before .before .before .args .tokens .now) a (c .before .before .before .before .before .before .before .before .before .before .before .before .before .before .before .before .before .pre .0) (c .before .before .before .before .before .before .before .before .before .before .before .before .before .bump .ensures) (c .before .before .before .before .before .before .before .before .before .before .before .before .before .before .before .before .before .args .tree .now) (c .before .before .before .before .before .before .before .before .before .before .before .before .before .before .before .before .before .pre .1)) (c .before .before .before .before .before .before .before .before .before .before .before .before .expect-ident .ensures) (c .before .before .before .before .before .before .before .before .name .given .1)) refl (closes-as (c .before .before .before .before .peek-span .ensures) (c .before .before .close .ensures))
+returns-2 c = λ src a. semi-shut (nodeCode asset-node) refl (named (asset-key src (c .before .before .before .before .before .before .before .before .before .before .before .before .before .before .before .before .before .args .tokens .now) a (c .before .before .before .before .before .before .before .before .before .before .before .before .before .before .before .before .before .pre .0) (c .before .before .before .before .before .before .before .before .before .before .before .before .before .bump .ensures) (c .before .before .before .before .before .before .before .before .before .before .before .before .before .before .before .before .before .args .tree .now) (c .before .before .before .before .before .before .before .before .before .before .before .before .before .before .before .before .before .pre .1)) (c .before .before .before .before .before .before .before .before .before .before .before .before .expect-ident .ensures) (c .before .before .before .before .before .before .before .before .name .given .1)) refl (closes-as (c .before .before .before .before .peek-span .ensures) (c .before .before .close-semi .ensures))
 
 pub asset-decl-spec : {M : Type 1} → statement M
 asset-decl-spec =
@@ -50,7 +50,7 @@ asset-decl-spec =
     enum-known-e
     enum-known-name
     peek-span-requires
-    close-requires
+    close-semi-requires
     same-length
     returns
     same-length-2

@@ -26,8 +26,8 @@ enum-known-value c = search needs
 peek-span-requires : tie.Need-peek-span-requires
 peek-span-requires c κs = search needs
 
-close-requires : tie.Need-close-requires
-close-requires c κs = ((said (invariant-key [] (c .before .before .before .before .before .before .before .before .before .before .before .before .before .before .args .tokens .now) (c .before .before .before .before .before .before .before .before .before .before .before .before .before .before .args .allowance) (c .before .before .before .before .before .before .before .before .before .before .before .before .before .before .pre .0) (c .before .before .before .before .before .before .before .before .before .before .bump .ensures) (c .before .before .before .before .before .before .before .before .before .before .before .before .before .before .args .tree .now) (c .before .before .before .before .before .before .before .before .before .before .before .before .before .before .pre .1)) (c .before .before .before .before .before .before .before .before .before .expr .ensures []) (c .before .before .before .before .before .value .given .1)) .ready, ready-small (c .before .before .before .before .before .before .before .before .before .before .before .before .before .before .pre .0))
+close-semi-requires : tie.Need-close-semi-requires
+close-semi-requires c κs = ((said (invariant-key [] (c .before .before .before .before .before .before .before .before .before .before .before .before .before .before .args .tokens .now) (c .before .before .before .before .before .before .before .before .before .before .before .before .before .before .args .allowance) (c .before .before .before .before .before .before .before .before .before .before .before .before .before .before .pre .0) (c .before .before .before .before .before .before .before .before .before .before .bump .ensures) (c .before .before .before .before .before .before .before .before .before .before .before .before .before .before .args .tree .now) (c .before .before .before .before .before .before .before .before .before .before .before .before .before .before .pre .1)) (c .before .before .before .before .before .before .before .before .before .expr .ensures []) (c .before .before .before .before .before .value .given .1)) .ready, ready-small (c .before .before .before .before .before .before .before .before .before .before .before .before .before .before .pre .0))
 
 same-length : tie.Need-same-length
 same-length c = search needs
@@ -39,7 +39,7 @@ same-length-2 : tie.Need-same-length-2
 same-length-2 c = search needs
 
 returns-2 : tie.Need-returns-2
-returns-2 c = λ src. semi-shut (nodeCode invariant-node) refl (said (invariant-key src (c .before .before .before .before .before .before .before .before .before .before .before .before .before .before .before .before .before .args .tokens .now) (c .before .before .before .before .before .before .before .before .before .before .before .before .before .before .before .before .before .args .allowance) (c .before .before .before .before .before .before .before .before .before .before .before .before .before .before .before .before .before .pre .0) (c .before .before .before .before .before .before .before .before .before .before .before .before .before .bump .ensures) (c .before .before .before .before .before .before .before .before .before .before .before .before .before .before .before .before .before .args .tree .now) (c .before .before .before .before .before .before .before .before .before .before .before .before .before .before .before .before .before .pre .1)) (c .before .before .before .before .before .before .before .before .before .before .before .before .expr .ensures src) (c .before .before .before .before .before .before .before .before .value .given .1)) refl (closes-as (c .before .before .before .before .peek-span .ensures) (c .before .before .close .ensures))
+returns-2 c = λ src. semi-shut (nodeCode invariant-node) refl (said (invariant-key src (c .before .before .before .before .before .before .before .before .before .before .before .before .before .before .before .before .before .args .tokens .now) (c .before .before .before .before .before .before .before .before .before .before .before .before .before .before .before .before .before .args .allowance) (c .before .before .before .before .before .before .before .before .before .before .before .before .before .before .before .before .before .pre .0) (c .before .before .before .before .before .before .before .before .before .before .before .before .before .bump .ensures) (c .before .before .before .before .before .before .before .before .before .before .before .before .before .before .before .before .before .args .tree .now) (c .before .before .before .before .before .before .before .before .before .before .before .before .before .before .before .before .before .pre .1)) (c .before .before .before .before .before .before .before .before .before .before .before .before .expr .ensures src) (c .before .before .before .before .before .before .before .before .value .given .1)) refl (closes-as (c .before .before .before .before .peek-span .ensures) (c .before .before .close-semi .ensures))
 
 pub invariant-decl-spec : {M : Type 1} → statement M
 invariant-decl-spec =
@@ -50,7 +50,7 @@ invariant-decl-spec =
     enum-known-e
     enum-known-value
     peek-span-requires
-    close-requires
+    close-semi-requires
     same-length
     returns
     same-length-2

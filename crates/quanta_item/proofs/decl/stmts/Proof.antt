@@ -10,7 +10,7 @@ use Rattle.quanta_cursor.specs.Tokens.{size}
 use Rattle.quanta_cursor.proofs.Meeting.{took-all, failed-all, took-of, failed-of}
 use Rattle.quanta_cursor.proofs.Lists.{stmts-run}
 use Rattle.quanta_cursor.proofs.Listing.{Rolling, run-begun}
-use Rattle.quanta_item.proofs.Runs.{at-brace, at-eof, more-bad, more-on, more-less}
+use Rattle.quanta_cursor.proofs.Braces.{at-brace, at-eof, more-bad, more-on, more-less}
 use Rattle.quanta_item.proofs.decl.stmts.Statement.{statement}
 use Rattle.quanta_item.proofs.decl.stmts.Tie as tie
 

@@ -9,7 +9,7 @@ use Rattle.quanta_cursor.specs.Tokens.{size}
 use Rattle.quanta_cursor.proofs.Meeting.{took-of, failed-of, took-all, failed-all}
 use Rattle.quanta_cursor.proofs.Lists.{items-run}
 use Rattle.quanta_cursor.proofs.Listing.{Rolling, run-begun}
-use Rattle.quanta_item.proofs.Runs.{at-brace, at-eof, more-bad, more-on, more-less}
+use Rattle.quanta_cursor.proofs.Braces.{at-brace, at-eof, more-bad, more-on, more-less}
 use Rattle.quanta_parser.proofs.program.items.Statement.{statement}
 use Rattle.quanta_parser.proofs.program.items.Tie as tie
 

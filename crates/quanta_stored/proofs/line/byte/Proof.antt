@@ -35,7 +35,7 @@ add-result : tie.Need-add-result
 add-result c = search needs
 
 cast-result : tie.Need-cast-result
-cast-result c = 
+cast-result c =
     let high = digit-in (c .before .before .before .before .before .args .part .now) (2 * (c .before .before .before .before .before .args .j)) (omega arith) in
     let low = digit-in (c .before .before .before .before .before .args .part .now) (2 * (c .before .before .before .before .before .args .j) + 1) (omega arith) in
     omega (arith, c .before .before .digit .ensures .0, c .digit2 .ensures .0)

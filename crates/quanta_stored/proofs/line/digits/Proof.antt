@@ -27,7 +27,7 @@ digit-requires : tie.Need-digit-requires Inv-loop μ-loop
 digit-requires c κs = search needs
 
 returns : tie.Need-returns Inv-loop μ-loop
-returns c = 
+returns c =
     let inv = c .before .before .before .before .loop .inv in
     let same = c .before .digit .ensures .0 in
     (run-stop (λ (b : ℕ). ltb (digitOf b) 16) _ _ (c .before .before .before .loop-test .taken) (ap (λ (d : ℕ). ltb d 16) (sym same) ∙ le-ltb _ 16 (c .if1 .taken)) inv, inv .0)
@@ -39,13 +39,13 @@ loop-less : tie.Need-loop-less Inv-loop μ-loop
 loop-less c = search needs
 
 loop-again : tie.Need-loop-again Inv-loop μ-loop
-loop-again c = 
+loop-again c =
     let inv = c .before .before .before .before .loop .inv in
     let same = c .before .digit .ensures .0 in
     run-more (λ (b : ℕ). ltb (digitOf b) 16) _ _ (c .before .before .before .loop-test .taken) (ap (λ (d : ℕ). ltb d 16) (sym same) ∙ lt-ltb _ 16 (c .if1 .left)) inv
 
 returns-2 : tie.Need-returns-2 Inv-loop μ-loop
-returns-2 c = 
+returns-2 c =
     let inv = c .before .loop .inv in
     (run-end (λ (b : ℕ). ltb (digitOf b) 16) _ _ (c .loop-test .left) inv, inv .0)
 

@@ -42,7 +42,7 @@ loop-less : tie.Need-loop-less Inv-loop μ-loop
 loop-less c = omega arith
 
 loop-again : tie.Need-loop-again Inv-loop μ-loop
-loop-again c = 
+loop-again c =
     let inv = c .before .before .loop .inv in
     (omega arith, simp length-set (inv .1), fill-more _ _ (c .before .before .before .before .digits .ensures .0) (c .before .before .before .if1 .left) _ (c .before .before .loop .out) _ (c .before .loop-test .taken) (c .byte .ensures) (inv .2))
 
@@ -50,7 +50,7 @@ same-length : tie.Need-same-length Inv-loop μ-loop
 same-length c = search needs
 
 returns-2 : tie.Need-returns-2 Inv-loop μ-loop
-returns-2 c = 
+returns-2 c =
     let inv = c .before .loop .inv in
     λ h k less. inv .2 k (omega arith)
 

@@ -24,7 +24,7 @@ shared-slice-read-if1 : tie.Need-shared-slice-read-if1 Inv-loop μ-loop
 shared-slice-read-if1 c = search needs
 
 returns : tie.Need-returns Inv-loop μ-loop
-returns c = 
+returns c =
     let inv = c .before .before .before .loop .inv in
     (run-stop (λ (x : ℕ). not (eqb x (c .before .before .before .before .args .b))) _ _ (c .before .before .loop-test .taken) (ap not (eq-eqb _ _ (c .if1 .taken))) inv, inv .0)
 
@@ -35,12 +35,12 @@ loop-less : tie.Need-loop-less Inv-loop μ-loop
 loop-less c = search needs
 
 loop-again : tie.Need-loop-again Inv-loop μ-loop
-loop-again c = 
+loop-again c =
     let inv = c .before .before .before .loop .inv in
     run-more (λ (x : ℕ). not (eqb x (c .before .before .before .before .args .b))) _ _ (c .before .before .loop-test .taken) (ap not (ne-eqb _ _ (c .if1 .left))) inv
 
 returns-2 : tie.Need-returns-2 Inv-loop μ-loop
-returns-2 c = 
+returns-2 c =
     let inv = c .before .loop .inv in
     (run-end (λ (x : ℕ). not (eqb x (c .before .before .args .b))) _ _ (c .loop-test .left) inv, inv .0)
 

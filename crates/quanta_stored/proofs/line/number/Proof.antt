@@ -35,13 +35,13 @@ loop-less : tie.Need-loop-less Inv-loop μ-loop
 loop-less c = search needs
 
 loop-again : tie.Need-loop-again Inv-loop μ-loop
-loop-again c = 
+loop-again c =
     let inv = c .before .before .before .loop .inv in
     let done = c .grown .ensures in
     (fold-more grown 0 _ _ _ _ (c .before .before .loop-test .taken) (done .0) (inv .0), done .1)
 
 returns-2 : tie.Need-returns-2 Inv-loop μ-loop
-returns-2 c = 
+returns-2 c =
     let inv = c .before .loop .inv in
     (number-some _ _ (c .before .before .if1 .left) (fold-end grown 0 _ _ _ (c .loop-test .left) (inv .0)), inv .1)
 

@@ -29,7 +29,7 @@ times-requires : tie.Need-times-requires
 times-requires c κs = search needs
 
 mul-result : tie.Need-mul-result
-mul-result c = 
+mul-result c =
     let short = c .before .before .before .digits .ensures .1 in
     omega (arith, size-fits (c .before .before .before .digits .result) (c .times .result) (omega arith) (c .times .ensures .1))
 

@@ -34,7 +34,7 @@ loop-less : tie.Need-loop-less Inv-loop μ-loop
 loop-less c = omega arith
 
 loop-again : tie.Need-loop-again Inv-loop μ-loop
-loop-again c = 
+loop-again c =
     let inv = c .before .loop .inv in
     let stored = ap (λ (l : List ℕ). set l (c .before .loop .i) RUBBISH) (inv .2) in
     (omega arith, simp length-set (inv .1), stored ∙ fill-more (c .before .loop .i) RUBBISH (c .before .before .args .words .now) (omega arith))
@@ -43,7 +43,7 @@ same-length : tie.Need-same-length Inv-loop μ-loop
 same-length c = search needs
 
 returns : tie.Need-returns Inv-loop μ-loop
-returns c = 
+returns c =
     let inv = c .before .loop .inv in
     let all : c .before .loop .i ≡ length (c .before .before .args .words .now) = omega arith in
     inv .2 ∙ rw (all, drop-length) (append-nil _)

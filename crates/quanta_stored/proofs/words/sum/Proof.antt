@@ -35,7 +35,7 @@ loop-less : tie.Need-loop-less Inv-loop μ-loop
 loop-less c = search needs
 
 loop-again : tie.Need-loop-again Inv-loop μ-loop
-loop-again c = 
+loop-again c =
     let inv = c .before .before .before .loop .inv in
     let done = c .added .ensures in
     (fold-more added 1 _ _ _ _ (c .before .before .loop-test .taken) (done .0) (inv .0), done .1)

@@ -10,7 +10,7 @@ use Rattle.readings.proofs.replay.all.Statement.{statement}
 use Rattle.readings.proofs.replay.all.Tie as tie
 
 abbrev Inv-loop : tie.InvT-loop
-Inv-loop list words₀ source₀ tokens₀ tree₀ lines₀ differing₀ at₀ words source tokens tree lines differing at = 
+Inv-loop list words₀ source₀ tokens₀ tree₀ lines₀ differing₀ at₀ words source tokens tree lines differing at =
     (at ≤ length list + 1) ×
     (lines ≤ at) ×
     (differing ≤ lines) ×
@@ -65,14 +65,15 @@ loop-less : tie.Need-loop-less Inv-loop μ-loop
 loop-less c = search needs
 
 loop-again : tie.Need-loop-again Inv-loop μ-loop
-loop-again c = 
-    ( search needs
-    , search needs
-    , ⊎-elim (λ w. omega arith) (λ w. omega arith) (c .if1 .came)
-    , search needs
-    , search needs
-    , search needs
-    , search needs)
+loop-again c = (
+  search needs,
+  search needs,
+  ⊎-elim (λ w. omega arith) (λ w. omega arith) (c .if1 .came),
+  search needs,
+  search needs,
+  search needs,
+  search needs,
+)
 
 last-requires : tie.Need-last-requires Inv-loop μ-loop
 last-requires c κs = search needs
