@@ -3,7 +3,8 @@
  *
  * Link target/staticlib/libquanta.a, which `rt staticlib quanta` writes, on x86-64. The archive needs
  * nothing but memcpy, memset and their like, keeps nothing between calls and allocates nothing, so that
- * any number of threads may call it, each on buffers of its own.
+ * any number of threads may call it, each on buffers of its own. A call was seen to take up to 128 KB of
+ * stack (docs/PERFORMANCE.md).
  *
  * Document 01 (docs/01-scope.md) says what each answer is.
  */
