@@ -2,7 +2,7 @@
 -- Assumes nothing.
 use mathlib.Core.Path.{_≡_, refl, ap, sym, subst, _∙_}
 use mathlib.Core.Bool.{Bool, true, false}
-use mathlib.Core.List.{List, _++_}
+use mathlib.Core.List.{List, [], _++_}
 use Prim.Native.Nat.{ℕ, _+_, _-_, _*_, _/_, _≤_}
 use native.Mathlib.Omega.{arith}
 use borrow.Author.Tests.{le-ltb}
@@ -37,6 +37,7 @@ use Rattle.quanta_reading.specs.declared.answer.Answer.{Answer}
 use Rattle.quanta_reading.specs.declared.answer.Answer.the-variants.{Accepted, Lexical, NoTokenRoom, Syntax, NoTreeRoom}
 use Rattle.quanta_reading.specs.Reading.{inRoom, parsed, lexed, recordsOf, recordWords, treeWords, answering, reading, Conforms}
 use Rattle.quanta_reading.proofs.TokenWords.{closes, orders, length-refine}
+use Rattle.quanta_reading.proofs.Targets.{lawful-targets}
 use Rattle.quanta_reading.specs.Demand3.{Enough, Valid, Sentence, Exact, Faithful}
 
 -- THE LEXER'S PART
@@ -131,7 +132,7 @@ module _ {s : Symbol} (c : Call s) (source table : List ℕ) (words tree : ℕ) 
   by-derived : (rs : List Rec) → Valid source table → answer s source (lexAll source table .toks) ≡ accept rs → Sentence s source table
   by-derived rs v e =
       let d = answered c source (lexAll source table .toks) (closes (length source) 0 (lexAll source table .toks) (in-order source table (v .scanned))) rs e in
-      record { valid = v; derivation = d .tree; spells = d .derives .spells; targets = d .derives .lawful; measured = d .derives .small }
+      record { valid = v; derivation = d .tree; spells = d .derives .spells; targets = lawful-targets (d .tree) [] .0 (d .derives .lawful); measured = d .derives .small }
 
   by-tree : (b : Bool) (n m : ℕ) → Sentence s source table → Meant (inRoom b n m)
   by-tree true n m x = tt
@@ -161,7 +162,7 @@ module _ {s : Symbol} (c : Call s) (source table : List ℕ) (words tree : ℕ) 
     given : answer s source toks′ ≡ accept rows
     given =
         answers c source toks′ (closes (length source) 0 toks′ (ordered source table words tree g (x .valid))) (x .derivation)
-        (record { spells = x .spells; small = x .measured; lawful = x .targets })
+        (record { spells = x .spells; small = x .measured; lawful = lawful-targets (x .derivation) [] .1 (x .targets) })
 
     fits : length rows ≤ tree / 6
     fits =

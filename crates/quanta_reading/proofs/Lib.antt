@@ -2,6 +2,7 @@ pub mod TokenWords
 pub mod Laying
 pub mod Finishing
 pub mod Conforming
+pub mod Targets
 pub mod Faithful
 pub mod Numbers
 pub mod Rows

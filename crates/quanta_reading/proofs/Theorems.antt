@@ -2,20 +2,24 @@
 -- Assumes nothing.
 use mathlib.Core.Path.{_≡_, ap, sym, _∙_}
 use mathlib.Core.List.{List}
+use mathlib.Core.Logic.{_↔_}
 use Prim.Native.Nat.{ℕ, _/_, _≤_, _<_}
 use lib.ListN.{length}
+use Rattle.grammar.specs.Grammar.{Tok, Lawful}
 use Rattle.quanta_lexer.specs.Tokens.{lexAll}
-use Rattle.quanta_grammar.specs.Productions.{Symbol}
-use Rattle.quanta_grammar.specs.Reading.{Call}
+use Rattle.quanta_grammar.specs.Productions.{Symbol, Derivation}
+use Rattle.quanta_grammar.specs.Reading.{Call, terms}
 use Rattle.quanta_reading.specs.declared.answer.Answer.{Answer}
 use Rattle.quanta_reading.specs.declared.answer.Answer.the-variants.{Accepted, NoTokenRoom, NoTreeRoom}
 use Rattle.quanta_reading.specs.declared.outcome.Outcome.{Outcome}
 use Rattle.quanta_reading.specs.Reading.{reading, Conforms}
+use Rattle.quanta_reading.specs.Targets.{EveryTarget}
 use Rattle.quanta_reading.specs.Demand3.{Enough, Exact}
 use Rattle.quanta_reading.specs.Values.{values, Fits, Exported}
 use Rattle.quanta_reading.specs.Rows.{rows, said, seen}
 use Rattle.quanta_reading.proofs.Lengths as Lengths
 use Rattle.quanta_reading.proofs.Needs as Needs
+use Rattle.quanta_reading.proofs.Targets as Targets
 use Rattle.quanta_reading.proofs.Faithful as Faithful
 use Rattle.quanta_reading.proofs.Numbers as Numbers
 use Rattle.quanta_reading.proofs.Rows as Rows
@@ -50,6 +54,10 @@ module _ (s : Symbol) (source table : List ℕ) (tokens tree : ℕ) where
 pub exact : {s : Symbol} → Call s → (source table : List ℕ) (tokens tree : ℕ) → Enough source table tokens tree → {r : Answer} {tokens′ tree′ : List ℕ}
     → Conforms s source table tokens tree r tokens′ tree′ → Exact s source table tree r tree′
 exact = Faithful.exact
+
+-- THE TARGET RULE is the condition that the reader keeps, whatever tokens stand behind.
+pub lawful-targets : {s : Symbol} (d : Derivation s) (r : List Tok) → Lawful terms d r ↔ EveryTarget d
+lawful-targets = Targets.lawful-targets
 
 -- The numbers of an answer fit a word.
 pub fits : {s : Symbol} → Call s → {source table : List ℕ} {tokens tree : ℕ} {r : Answer} {tokens′ tree′ : List ℕ} → Conforms s source table tokens tree r tokens′ tree′ → Fits r

@@ -1,11 +1,11 @@
 -- DEMAND 3: with room for all, a call accepts exactly the sentences, and leaves the records of the one derivation.
 -- Assumes nothing.
 use mathlib.Core.Path.{_≡_}
-use mathlib.Core.List.{List, [], _++_}
+use mathlib.Core.List.{List, _++_}
 use mathlib.Core.Logic.{_↔_}
 use Prim.Native.Nat.{ℕ, _+_, _-_, _*_, _≤_}
 use lib.ListN.{length, replicate}
-use Rattle.grammar.specs.Grammar.{Tok, yield, Lawful}
+use Rattle.grammar.specs.Grammar.{Tok, yield}
 use Rattle.grammar.specs.Records.{treeOf, nodes}
 use Rattle.grammar.specs.Facts.{Within, Tallied, OwnTokens, owning}
 use Rattle.utf8.specs.Utf8.{firstBad}
@@ -16,13 +16,13 @@ use Rattle.quanta_words.specs.Words.{badIn}
 use Rattle.quanta_lexer.specs.Refusals.{sourceLimit, tableLimit}
 use Rattle.quanta_lexer.specs.Tokens.{done, lexAll}
 use Rattle.quanta_grammar.specs.Productions.{Symbol, Derivation, outs}
-use Rattle.quanta_grammar.specs.Reading.{terms}
 use Rattle.quanta_grammar.specs.Measuring.{size}
 use Rattle.quanta_grammar.specs.OwnTokens.{ownKinds}
 use Rattle.quanta_grammar.specs.Refine.{refine}
 use Rattle.quanta_reading.specs.declared.answer.Answer.{Answer}
 use Rattle.quanta_reading.specs.declared.answer.Answer.the-variants.{Accepted}
 use Rattle.quanta_reading.specs.Reading.{recordWords}
+use Rattle.quanta_reading.specs.Targets.{EveryTarget}
 
 -- a well-formed table, a source within the limit, and room for one token record per byte plus one and for as many tree records
 pub record Enough (source table : List ℕ) (tokens tree : ℕ) : Type 0 where
@@ -51,8 +51,8 @@ pub record Sentence (s : Symbol) (source table : List ℕ) : Type 0 where
   -- a derivation of its tokens
   pub derivation : Derivation s
   pub spells : yield derivation ≡ tokensOf source table
-  -- each assignment's target leaves the record of a name or of a field: parentheses leave none
-  pub targets : Lawful terms derivation []
+  -- every assignment target is a name or a field once parentheses are removed
+  pub targets : EveryTarget derivation
   -- the measure, which quanta_grammar's MeasureLaws say in document 01's words
   pub measured : size derivation ≤ 64
 
