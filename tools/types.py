@@ -3,7 +3,7 @@ import re,os,sys
 root=os.path.dirname(os.path.dirname(os.path.abspath(__file__)))
 gen=sys.argv[1]; sys.argv=['x','quanta_type',gen]
 sys.path.insert(0,root+'/tools')
-import fill
+import cycle
 CRATE='quanta_type'; FILE='ty'; CY='+generic_arg+generic_args+ty'
 AL='a .1 .1 .1 .1 .1 .0'
 mu={'ty':f'{AL} * 4 + 3','generic-args':f'{AL} * 4 + 2','generic-arg':f'{AL} * 4 + 1'}
@@ -75,7 +75,7 @@ uses=f'''-- The one proof of the cycle: a type, its arguments and an argument ea
 -- Assumes nothing.
 use borrow.Author.Needs.{{needs}}
 use native.Mathlib.Omega.{{arith}}
-use mathlib.Core.Path.{{_≡_, refl, sym, _∙_}}
+use mathlib.Core.Path.{{refl, sym, _∙_}}
 use Prim.Native.Nat.{{_+_, _-_, _*_}}
 use Rattle.grammar.specs.Records.{{fresh}}
 use Rattle.quanta_token.specs.TokenKind.{{code, Lt}}
@@ -84,51 +84,7 @@ use Rattle.quanta_cursor.specs.Tokens.{{size}}
 use {C}Places.{{past-in, past-as, ready-past, ready-small}}
 use {C}Meeting.{{took, failed, took-of, failed-of, left-of, spent-of}}
 use {C}Lists.{{type-arguments}}
-use {P}Lists.{{Rolling, on-of, on-failed-of, list-none, list-begun, list-ends, comma-past, list-bad, list-on, list-less}}
+use {C}Listing.{{Rolling, on-of, on-failed-of, list-none, list-begun, list-ends, comma-past, list-bad, list-on, list-less}}
 use {P}Types.{{is-type-name, no-type-name, type-none, type-plain, type-bad, type-met, arg-deep, arg-in}}
 '''
-s=open(f'{root}/target/raw/{CRATE}/{FILE}/{CY}.antt').read()
-s=re.sub(r'(?m)^-- src/.*\n','',s)
-s=re.sub(r'\.\{\n\s+(\w+),\n\}',r'.{\1}',s)
-s=re.sub(r'=\n\s+\?',r'= ?',s)
-s=re.sub(r'\(t : ℕ\)\s+→\s+',r'(t : ℕ) → ',s)
-s=re.sub(r'\(\n((?:\s+\S+(?: t)?,\n)+)\s*\)', lambda m:'('+', '.join(x.strip().rstrip(',') for x in m.group(1).strip().split('\n'))+')', s)
-s=re.sub(r'(abbrev \S+-(?:at|below) : .*\n)((?:\S+ t =)(?:.*\n(?:    .*\n)*))', lambda m:m.group(1)+re.sub(r'\s*\n\s+',' ',m.group(2).rstrip())+'\n', s)
-tup={}
-for m in re.finditer(r'(\S+)-lts\.Need-\S+ (\([^()]*\)) \(',s): tup[m.group(1)]=m.group(2)
-for k,v in tup.items():
-    s=s.replace('%s-lts.spec %s'%(k,v),'%s-lts.spec (%s-calls t)'%(k,k))
-    s=re.sub(r'(%s-lts\.Need-\S+) %s'%(re.escape(k),re.escape(v)), lambda m:m.group(1)+' (%s-calls t)'%k, s)
-calls='\n\n'.join('abbrev %s-calls : ℕ → %s-lts.Claims\n%s-calls t = %s'%(k,k,k,v) for k,v in tup.items())
-first=re.search(r'(?m)^(abbrev \S+-Inv-|\S+ : \(t : ℕ\))',s).start()
-s=s[:first]+'-- what each member may assume of those that it calls\n'+calls+'\n\n'+s[first:]
-out=[]; used={}
-for blk in re.split(r'\n\n',s):
-    m=re.match(r'abbrev μ-(\S+) :',blk)
-    if m: out.append(re.sub(r'= \?$','= '+mu[m.group(1)],blk)); continue
-    m=re.match(r'abbrev (\S+)-Inv-(\S+) :',blk)
-    if m: out.append(re.sub(r'= \?$',lambda _:'= '+inv[m.group(1)][0],blk)); continue
-    m=re.match(r'abbrev (\S+)-μ-(\S+) :',blk)
-    if m: out.append(re.sub(r'= \?$',lambda _:'= '+inv[m.group(1)][1],blk)); continue
-    m=re.match(r'(\S+) :\s+\(t : ℕ\) → (\S+)-lts\.Need-(\S+)',blk)
-    if m:
-        mem,need=m.group(2),m.group(3)
-        recs,needs=fill.lts(f'{gen}/Rattle.{CRATE}.proofs/proofs/{FILE}/{CY}/Lts-{mem.replace("-","_")}.antt')
-        places=fill.chain(recs,needs['Need-'+need]) if 'Need-'+need in needs else {}
-        a=ans.get(mem,{}).get(need); used.setdefault(mem,set()).add(need)
-        if a is None:
-            a='search needs'
-            if not re.match(r'enum-',need): print('left',mem,need,' '.join(places)); a='?'
-        blk=re.sub(r'= (\?|search needs)$',lambda _:'= '+fill.expand(a,places,mem+' '+need),blk)
-    out.append(blk)
-for k in ans:
-    for n in ans[k]:
-        if n not in used.get(k,()): print('no need',k,n)
-s='\n\n'.join(out)
-head,sp=s.split('\npub +',1); sp='pub +'+sp
-i=sp.index('=\n')
-body=re.sub(r'\s*\n\s*',' ',sp[i+2:]).strip()
-body=body.replace(' (λ t. ','\n    (λ t. ').replace(') λ t. ',')\n    λ t. ')
-d=f'{root}/crates/{CRATE}/proofs/{FILE}/{CY}'
-os.makedirs(d,exist_ok=True)
-open(d+'/Proof.antt','w').write(uses+head+'\n'+sp[:i+2]+'    '+body+'\n')
+cycle.write(CRATE,FILE,CY,gen,uses,mu,inv,ans)

@@ -25,17 +25,6 @@ pub struct LineColumn {
 }
 
 // A slice is two arguments of C, its pointer and its length in elements.
-type CCall = unsafe extern "C" fn(
-    source: *const u8,
-    source_len: usize,
-    words: *const u8,
-    words_len: usize,
-    tokens: *mut u32,
-    tokens_len: usize,
-    tree: *mut u32,
-    tree_len: usize,
-) -> Outcome;
-
 macro_rules! calls {
     ($($name:ident)*) => {
         extern "C" {
@@ -64,7 +53,7 @@ pub fn read(
     tokens: &mut [u32],
     tree: &mut [u32],
 ) -> Outcome {
-    let function: CCall = match call {
+    let function = match call {
         Call::Program => quanta_parse,
         Call::Item => quanta_parse_item,
         Call::Stmt => quanta_parse_stmt,
