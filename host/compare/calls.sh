@@ -1,16 +1,26 @@
 #!/usr/bin/env bash
 # The whole comparison of the five proved calls with the original: answers and every word of both buffers, which hold rubbish
 # before each call. Some 12 million cases, a quarter of an hour or more.
+#   calls.sh             through the desk's archive
+#   calls.sh terminal    through the signing terminal's
 # Prints each command with its count and how far it is; the last line is 'N cases, D disagreements'. Exit status 1 where any disagree.
 set -uo pipefail
 cd "$(dirname "${BASH_SOURCE[0]}")/.." || exit 2
-cargo build --release --offline -p compare || exit 2
+case ${1-} in
+'') folder=target options=() ;;
+terminal) folder=target/terminal options=(--features terminal) ;;
+*)
+    sed -n '2,6s/^# \{0,1\}//p' "${BASH_SOURCE[0]}" >&2
+    exit 2
+    ;;
+esac
+cargo build --release --offline -p compare --target-dir "$folder" "${options[@]}" || exit 2
 cases=0
 disagreements=0
 run() {
     local said
     printf '%s\n' "compare oracle proved $*"
-    said=$(target/release/compare oracle proved "$@")
+    said=$("$folder/release/compare" oracle proved "$@")
     [ $? -le 1 ] || exit 2
     printf '%s\n' "$said"
     [[ ${said##*$'\n'} =~ ^([0-9]+)\ cases,\ ([0-9]+)\ disagreements$ ]] || exit 2

@@ -1,5 +1,9 @@
-//! Links the five proved calls.
+//! Links the five proved calls: the desk's archive or, with the feature `terminal`, the signing terminal's.
 
 fn main() {
-    archive::link("quanta");
+    if std::env::var_os("CARGO_FEATURE_TERMINAL").is_some() {
+        archive::link_terminal();
+    } else {
+        archive::link("quanta");
+    }
 }

@@ -111,8 +111,13 @@ fn run(
     }
 }
 
-// A word table of more bytes than this gets an index.
-const SHORT_TABLE: usize = 512;
+// A table of at most so many bytes has at most so many records: its index is made at every call, and takes little to clear.
+const SHORT_TABLE: usize = 8192;
+
+const SHORT_INDEX: usize = 2048;
+
+// No table has more records than that.
+const LONG_INDEX: usize = 16384;
 
 // The tokens, with an index of the word table in the words lent for it.
 fn run_indexed(src: &[u8], words: &[u8], index: &mut [u16], tokens: &mut [u32]) -> Read
@@ -123,24 +128,28 @@ fn run_indexed(src: &[u8], words: &[u8], index: &mut [u16], tokens: &mut [u32]) 
     run(&chart(), src, words, &sift(words), &index[..n], tokens)
 }
 
-// The tokens under a long table: no table has more records than that.
-fn run_long(src: &[u8], words: &[u8], tokens: &mut [u32]) -> Read
+// The tokens under a long table. The compiler keeps a function that calls itself out of its callers, so that the long index is on
+// the stack under long tables only; the turn more has no other use.
+fn run_long(src: &[u8], words: &[u8], tokens: &mut [u32], again: bool) -> Read
     requires { ⌜ length (now src) ≤ sourceLimit ⌝ }
     ensures { λ r. ⌜ Ran (now (src .entry)) (now (words .entry)) (now (tokens .entry)) (now (tokens .exit)) r ⌝ }
 {
-    let mut index = [0u16; 16384];
+    if again {
+        return run_long(src, words, tokens, false);
+    }
+    let mut index = [0u16; LONG_INDEX];
     run_indexed(src, words, &mut index, tokens)
 }
 
-// The tokens. A table of 512 bytes has at most 128 records, and its index takes little to clear.
+// The tokens, with an index as long as the table asks for.
 fn run_by_size(src: &[u8], words: &[u8], tokens: &mut [u32]) -> Read
     requires { ⌜ length (now src) ≤ sourceLimit ⌝ }
     ensures { λ r. ⌜ Ran (now (src .entry)) (now (words .entry)) (now (tokens .entry)) (now (tokens .exit)) r ⌝ }
 {
-    if 512 < words.len() {
-        return run_long(src, words, tokens);
+    if SHORT_TABLE < words.len() {
+        return run_long(src, words, tokens, src.len() == 0);
     }
-    let mut index = [0u16; 128];
+    let mut index = [0u16; SHORT_INDEX];
     run_indexed(src, words, &mut index, tokens)
 }
 

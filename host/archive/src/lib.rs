@@ -1,4 +1,4 @@
-//! For build scripts: links the archive of a proved crate, and makes it first where it is missing or older than its sources.
+//! For build scripts: links an archive of the proved crates, and makes it first where it is missing or older than its sources.
 //! The environment variable QUANTA_ARCHIVE_DIR names another folder that holds the archives; they are then taken as they are.
 
 use std::collections::BTreeSet;
@@ -8,15 +8,39 @@ use std::process::Command;
 use std::time::SystemTime;
 use std::{env, fs};
 
+/// An archive: its name, the Rattle crate that it has the exports of, and the command that makes it.
+struct Made<'a> {
+    name: &'a str,
+    of: &'a str,
+    command: &'a [&'a str],
+}
+
 /// Tells cargo to link the archive of a Rattle crate. Its path is QUANTA_ARCHIVE for the package's own code and tests.
 pub fn link(name: &str) {
+    link_made(&Made {
+        name,
+        of: name,
+        command: &["rt", "staticlib", name],
+    });
+}
+
+/// Tells cargo to link the signing terminal's archive of the five calls.
+pub fn link_terminal() {
+    link_made(&Made {
+        name: "quanta_terminal",
+        of: "quanta",
+        command: &["bash", "tools/terminal"],
+    });
+}
+
+fn link_made(made: &Made) {
     println!("cargo::rerun-if-env-changed=QUANTA_ARCHIVE_DIR");
     let found = match env::var_os("QUANTA_ARCHIVE_DIR") {
-        Some(dir) => lent_archive(&PathBuf::from(dir), name),
-        None => own_archive(name),
+        Some(dir) => lent_archive(&PathBuf::from(dir), made.name),
+        None => own_archive(made),
     };
     match found {
-        Ok(archive) => tell(&archive, name),
+        Ok(archive) => tell(&archive, made.name),
         Err(message) => println!("cargo::error={message}"),
     }
 }
@@ -41,11 +65,11 @@ fn lent_archive(dir: &Path, name: &str) -> Result<PathBuf, String> {
 }
 
 // The archive of the repository that this package is part of.
-fn own_archive(name: &str) -> Result<PathBuf, String> {
+fn own_archive(made: &Made) -> Result<PathBuf, String> {
     let root = Path::new(env!("CARGO_MANIFEST_DIR")).join("../..");
-    let archive = root.join(format!("target/staticlib/lib{name}.a"));
+    let archive = root.join(format!("target/staticlib/lib{}.a", made.name));
     let mut newest = SystemTime::UNIX_EPOCH;
-    for reached in reached(&root, name)? {
+    for reached in reached(&root, made.of)? {
         let folder = root.join("crates").join(reached);
         println!("cargo::rerun-if-changed={}", folder.display());
         newest = newest.max(newest_in(&folder)?);
@@ -56,9 +80,9 @@ fn own_archive(name: &str) -> Result<PathBuf, String> {
         .and_then(|()| File::create(&lock))
         .and_then(|file| file.lock().map(|()| file));
     let _locked = locked.map_err(|error| format!("cannot lock {}: {error}", lock.display()))?;
-    let made = fs::metadata(&archive).and_then(|data| data.modified());
-    if made.is_err() || made.is_ok_and(|made| made < newest) {
-        make(&root, name)?;
+    let since = fs::metadata(&archive).and_then(|data| data.modified());
+    if since.is_err() || since.is_ok_and(|since| since < newest) {
+        make(&root, made)?;
     }
     Ok(archive)
 }
@@ -108,20 +132,22 @@ fn unreadable(path: &Path, error: &std::io::Error) -> String {
     format!("cannot read {}: {error}", path.display())
 }
 
-fn make(root: &Path, name: &str) -> Result<(), String> {
-    let ran = Command::new("rt")
-        .args(["staticlib", name])
+fn make(root: &Path, made: &Made) -> Result<(), String> {
+    let ran = Command::new(made.command[0])
+        .args(&made.command[1..])
         .current_dir(root)
         .output();
+    let said = made.command.join(" ");
     let output = ran.map_err(|error| {
-        format!("the archive of {name} is missing or old, and rt, which makes it, does not start: {error}")
+        format!(
+            "the archive {} is missing or old, and `{said}`, which makes it, does not start: {error}",
+            made.name
+        )
     })?;
     if !output.status.success() {
         eprint!("{}", String::from_utf8_lossy(&output.stdout));
         eprint!("{}", String::from_utf8_lossy(&output.stderr));
-        return Err(format!(
-            "`rt staticlib {name}` failed; what it said is above"
-        ));
+        return Err(format!("`{said}` failed; what it said is above"));
     }
     Ok(())
 }
