@@ -1,10 +1,13 @@
 /*
  * The proved reader of Quanta contracts, by C calling convention.
  *
- * Link target/staticlib/libquanta.a, which `rt staticlib quanta` writes, on x86-64. The archive needs
- * nothing but memcpy, memset and their like, keeps nothing between calls and allocates nothing, so that
- * any number of threads may call it, each on buffers of its own. A call was seen to take up to 128 KB of
- * stack (docs/PERFORMANCE.md).
+ * Link target/staticlib/libquanta.a, which `rt staticlib quanta` writes, on x86-64; or, where there is
+ * little stack, target/staticlib/libquanta_terminal.a, which `bash tools/terminal` writes: the same names
+ * and the same answers. An archive needs nothing but memcpy, memset and their like, keeps nothing between
+ * calls and allocates nothing, so that any number of threads may call it, each on buffers of its own.
+ *
+ * Stack that a call was seen to take at most (docs/PERFORMANCE.md): @DESK@ of the desk's archive, @TERMINAL@ of
+ * the terminal's; @LONG@ under a word table of more than 8,192 bytes, whichever is more.
  *
  * Document 01 (docs/01-scope.md) says what each answer is.
  */

@@ -70,28 +70,24 @@ fn generic_args(
     requires { ⌜ Ready (now tokens) (at .0) (no .0) ⌝ }
     ensures { λ r. ⌜ ((x : Acc) → ListsOn (arguments allowance (from (now (src .entry)) (now (tokens .entry)) (at .0)) x) x (now (src .entry)) (now (tokens .entry)) (now (tree .entry)) (no .0) r (now (tree .exit))) ⌝ }
 {
-    match generic_arg(src, tokens, tree, at, no, allowance) {
-        Parsed::Refused(e) => Listed::Refused(e),
-        Parsed::Node(first) => {
-            let mut at = first.at;
-            let mut no = first.no;
-            let mut count: u32 = 1;
-            loop {
-                if peek(tokens, at) != token::COMMA {
+    let mut at = at;
+    let mut no = no;
+    let mut count: u32 = 0;
+    loop {
+        match generic_arg(src, tokens, tree, at, no, allowance) {
+            Parsed::Refused(e) => return Listed::Refused(e),
+            Parsed::Node(arg) => {
+                let next = arg.at;
+                no = arg.no;
+                count += 1;
+                if peek(tokens, next) != token::COMMA {
                     return Listed::Nodes(Nodes {
-                        at: at,
+                        at: next,
                         no: no,
                         count: count,
                     });
                 }
-                match generic_arg(src, tokens, tree, bump(at), no, allowance) {
-                    Parsed::Refused(e) => return Listed::Refused(e),
-                    Parsed::Node(arg) => {
-                        at = arg.at;
-                        no = arg.no;
-                        count += 1;
-                    }
-                }
+                at = bump(next);
             }
         }
     }

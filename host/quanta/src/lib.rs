@@ -5,6 +5,9 @@
 //! one [`Refusal`] with its place. What each answer is, and every word of the two buffers, is determined
 //! by document 01 of the repository; the code behind the calls is proved to give it.
 //!
+//! The feature `terminal` links the signing terminal's archive in place of the desk's: the same calls and the same
+//! answers, with less stack. Only one of the two can be linked into a program.
+//!
 //! With buffers of its own:
 //!
 //! ```

@@ -1,19 +1,22 @@
--- The one proof of the cycle: a type, its arguments and an argument each answer what the grammar's reader gives. Each way through a reader cites one law.
--- The measure is 4 for each level of the allowance, and the reader's rank: an argument that is a type calls at one allowance less.
+-- The one proof of the cycle: a type, its arguments and an argument each answer what the grammar's reader gives. Each
+-- way through a reader cites one law. The measure is 4 for each level of the allowance, and the reader's rank: an
+-- argument that is a type calls at one allowance less.
 -- Assumes nothing.
 use borrow.Author.Needs.{needs}
 use native.Mathlib.Omega.{arith}
-use mathlib.Core.Path.{refl, sym, _∙_}
+use mathlib.Core.Path.{sym, _∙_}
 use Prim.Native.Nat.{_+_, _-_, _*_}
 use Rattle.grammar.specs.Records.{fresh}
 use Rattle.quanta_token.specs.TokenKind.{code, Lt}
-use Rattle.quanta_grammar.specs.Productions.{typeName, moreTypeArgs}
+use Rattle.quanta_grammar.specs.Productions.{typeName, typeArg, moreTypeArgs}
 use Rattle.quanta_cursor.specs.Tokens.{size}
 use Rattle.quanta_cursor.proofs.Places.{past-in, past-as, ready-past, ready-small}
-use Rattle.quanta_cursor.proofs.Meeting.{took, failed, took-of, failed-of, left-of, spent-of}
+use Rattle.quanta_cursor.proofs.Meeting.{took, failed, left-of, spent-of}
 use Rattle.quanta_cursor.proofs.Lists.{type-arguments}
-use Rattle.quanta_cursor.proofs.Listing.{Rolling, on-of, on-failed-of, list-none, list-begun, list-ends, comma-past, list-bad, list-on, list-less}
+use Rattle.quanta_cursor.proofs.Listing.{on-of, on-failed-of}
 use Rattle.quanta_type.proofs.Types.{is-type-name, no-type-name, type-none, type-plain, type-bad, type-met, arg-deep, arg-in}
+use Rattle.quanta_type.proofs.Arguments.{Awaits, begun, no-element, Element, element, behind, same-long}
+use Rattle.quanta_type.proofs.Arguments.{one-more, list-over, next-awaits, next-further}
 use Prim.Native.Nat.{ℕ, _<_}
 use borrow.Fn.Kinds.{In}
 use borrow.Fn.PlainCycle.{Measures, is, falls, and}
@@ -68,7 +71,8 @@ abbrev generic-arg-calls : ℕ → generic-arg-lts.Claims
 generic-arg-calls t = (peek-reads.Asked, peek-reads.Learnt, int-arg-reads.Asked, int-arg-reads.Learnt, enter-reads.Asked, enter-reads.Learnt, ty-below t, ty.Post)
 
 abbrev generic-args-calls : ℕ → generic-args-lts.Claims
-generic-args-calls t = (generic-arg-below t, generic-arg.Post, peek-reads.Asked, peek-reads.Learnt, bump-reads.Asked, bump-reads.Learnt)
+generic-args-calls t =
+    (generic-arg-below t, generic-arg.Post, peek-reads.Asked, peek-reads.Learnt, bump-reads.Asked, bump-reads.Learnt)
 
 abbrev ty-calls : ℕ → ty-lts.Claims
 ty-calls t = (peek-reads.Asked, peek-reads.Learnt, bump-reads.Asked, bump-reads.Learnt, leaf-reads.Asked, leaf-reads.Learnt, generic-args-below t, generic-args.Post, close-args-reads.Asked, close-args-reads.Learnt, err-reads.Asked, err-reads.Learnt)
@@ -106,65 +110,98 @@ generic-arg-same-length-2 t c = c .before .before .ty .kept .1 .1 .0
 generic-arg-returns-3 : (t : ℕ) → generic-arg-lts.Need-returns-3 (generic-arg-calls t) (generic-arg-at t) generic-arg.Post
 generic-arg-returns-3 t c = arg-in (c .before .before .before .before .before .before .before .before .before .before .before .before .before .args .src .now) (c .before .before .before .before .before .before .before .before .before .before .before .before .before .args .tokens .now) (c .before .before .before .before .before .before .before .before .before .before .before .before .before .args .at .0) (c .before .before .before .before .before .before .before .before .before .before .before .before .before .args .allowance) (c .before .before .before .before .before .before .before .before .before .before .before .before .before .pre .1 .inside) (λ z. c .before .before .before .before .before .before .before .before .if1 .left (c .before .before .before .before .before .before .before .before .before .peek .ensures ∙ z)) (left-of (c .before .before .before .before .before .less .given .1) (c .before .before .before .before .before .before .before .enter .ensures)) (c .before .before .ty .ensures)
 
+-- THE ARGUMENTS: one call reads each, and at the head of the loop one is to come
 abbrev generic-args-Inv-loop : generic-args-lts.InvT-loop
-generic-args-Inv-loop src tokens tree₀ allowance at₀ no₀ count₀ tree at no' count = Rolling moreTypeArgs src tokens allowance (at₀ .0) (no₀ .0) count₀ tree₀ (at .0) (no' .0) count tree
+generic-args-Inv-loop src tokens tree₀ allowance at₀ no₀ count₀ tree at no' count =
+    Awaits typeArg moreTypeArgs src tokens allowance (at₀ .0) tree₀ (no₀ .0) (at .0) (no' .0) count tree
 
 abbrev generic-args-μ-loop : generic-args-lts.MeasureT-loop
 generic-args-μ-loop src tokens tree₀ allowance at₀ no₀ count₀ tree at no' count = size tokens - at .0
 
-generic-args-generic-arg-requires : (t : ℕ) → generic-args-lts.Need-generic-arg-requires (generic-args-calls t) (generic-args-at t) generic-args.Post generic-args-Inv-loop generic-args-μ-loop
-generic-args-generic-arg-requires t c κs = (omega (arith, c .before .before .before .before .pre .0), (c .before .before .before .before .pre .1))
+module _ (t : ℕ) where
+  -- THE PLACES: the head of the loop, the call's answer, an argument that is read
+  abbrev Head : Type 0
+  Head =
+      generic-args-lts.At-loop (generic-args-calls t) (generic-args-at t) generic-args.Post generic-args-Inv-loop
+      generic-args-μ-loop
 
-generic-args-enum-known-e : (t : ℕ) → generic-args-lts.Need-enum-known-e (generic-args-calls t) (generic-args-at t) generic-args.Post generic-args-Inv-loop generic-args-μ-loop
-generic-args-enum-known-e t c = search needs
+  abbrev Answer : Type 0
+  Answer =
+      generic-args-lts.After-generic-arg (generic-args-calls t) (generic-args-at t) generic-args.Post
+      generic-args-Inv-loop generic-args-μ-loop
 
-generic-args-enum-known-first : (t : ℕ) → generic-args-lts.Need-enum-known-first (generic-args-calls t) (generic-args-at t) generic-args.Post generic-args-Inv-loop generic-args-μ-loop
-generic-args-enum-known-first t c = search needs
+  abbrev Argument : Type 0
+  Argument =
+      generic-args-lts.After-arg (generic-args-calls t) (generic-args-at t) generic-args.Post generic-args-Inv-loop
+      generic-args-μ-loop
 
-generic-args-loop-holds : (t : ℕ) → generic-args-lts.Need-loop-holds (generic-args-calls t) (generic-args-at t) generic-args.Post generic-args-Inv-loop generic-args-μ-loop
-generic-args-loop-holds t c = list-begun type-arguments (c .before .before .before .before .before .before .before .before .before .before .before .before .args .allowance) (c .before .before .before .before .before .before .before .before .before .before .before .before .pre .1) (took-of (c .before .before .before .first .given .1) (c .before .before .before .before .before .before .before .generic-arg .ensures))
+  abbrev argument : Argument → Element typeArg moreTypeArgs
+  argument c =
+      let g = c .before .before .before .before in
+      element (g .before .before .loop .inv) (g .generic-arg .ensures) (c .arg .given .1)
+      (g .generic-arg .kept .1 .1 .0)
 
-generic-args-peek-requires : (t : ℕ) → generic-args-lts.Need-peek-requires (generic-args-calls t) (generic-args-at t) generic-args.Post generic-args-Inv-loop generic-args-μ-loop
-generic-args-peek-requires t c κs = (c .loop .inv .ready .inside)
+  generic-args-loop-holds : generic-args-lts.Need-loop-holds (generic-args-calls t) (generic-args-at t)
+      generic-args.Post generic-args-Inv-loop generic-args-μ-loop
+  generic-args-loop-holds c =
+      let s = c .before .before .before in
+      begun (s .args .allowance) (s .args .tree .now) (s .pre .1)
 
-generic-args-same-length : (t : ℕ) → generic-args-lts.Need-same-length (generic-args-calls t) (generic-args-at t) generic-args.Post generic-args-Inv-loop generic-args-μ-loop
-generic-args-same-length t c = c .before .before .loop .inv .long ∙ c .before .before .before .before .before .before .before .before .before .before .generic-arg .kept .1 .1 .0
+  generic-args-generic-arg-requires : generic-args-lts.Need-generic-arg-requires (generic-args-calls t)
+      (generic-args-at t) generic-args.Post generic-args-Inv-loop generic-args-μ-loop
+  generic-args-generic-arg-requires c κs =
+      let h = c .before in
+      (omega (arith, h .before .before .before .before .pre .0), h .loop .inv .ready)
 
-generic-args-returns : (t : ℕ) → generic-args-lts.Need-returns (generic-args-calls t) (generic-args-at t) generic-args.Post generic-args-Inv-loop generic-args-μ-loop
-generic-args-returns t c = λ x. record { by = list-ends type-arguments (c .before .before .before .before .before .before .before .before .before .before .before .before .before .before .before .args .allowance) (c .before .before .before .before .before .before .before .before .before .before .before .before .before .before .before .pre .1) (took-of (c .before .before .before .before .before .before .first .given .1) (c .before .before .before .before .before .before .before .before .before .before .generic-arg .ensures)) (c .before .before .loop .inv) x (λ z. c .if1 .taken (c .before .peek .ensures ∙ z)) refl refl refl }
+  generic-args-same-length : generic-args-lts.Need-same-length (generic-args-calls t) (generic-args-at t)
+      generic-args.Post generic-args-Inv-loop generic-args-μ-loop
+  generic-args-same-length c =
+      let h : Head = search in
+      let g : Answer = search in
+      g .generic-arg .kept .1 .1 .0 ∙ h .loop .inv .long
 
-generic-args-bump-requires : (t : ℕ) → generic-args-lts.Need-bump-requires (generic-args-calls t) (generic-args-at t) generic-args.Post generic-args-Inv-loop generic-args-μ-loop
-generic-args-bump-requires t c κs = ready-small (c .before .before .before .loop .inv .ready)
+  generic-args-returns : generic-args-lts.Need-returns (generic-args-calls t) (generic-args-at t) generic-args.Post
+      generic-args-Inv-loop generic-args-μ-loop
+  generic-args-returns c =
+      let h : Head = search in
+      let g : Answer = search in
+      no-element (h .loop .inv) (g .generic-arg .ensures) (c .before .e .given .1)
 
-generic-args-generic-arg-requires-2 : (t : ℕ) → generic-args-lts.Need-generic-arg-requires-2 (generic-args-calls t) (generic-args-at t) generic-args.Post generic-args-Inv-loop generic-args-μ-loop
-generic-args-generic-arg-requires-2 t c κs = (omega (arith, c .before .before .before .before .before .before .before .before .before .before .before .before .before .before .before .before .before .pre .0), comma-past type-arguments (c .before .before .before .before .before .before .before .before .before .before .before .before .before .before .before .before .before .args .allowance) (c .before .before .before .before .before .before .before .before .before .before .before .before .before .before .before .before .before .pre .1) (took-of (c .before .before .before .before .before .before .before .before .first .given .1) (c .before .before .before .before .before .before .before .before .before .before .before .before .generic-arg .ensures)) (c .before .before .before .before .loop .inv) (sym (c .before .before .before .peek .ensures) ∙ c .before .before .if1 .left) (c .bump .ensures))
+  generic-args-add-count : generic-args-lts.Need-add-count (generic-args-calls t) (generic-args-at t)
+      generic-args.Post generic-args-Inv-loop generic-args-μ-loop
+  generic-args-add-count c =
+      let e = argument (search) in
+      omega (arith, one-more e, behind e .fits, behind e .inside, behind e .closed .few)
 
-generic-args-enum-known-e-2 : (t : ℕ) → generic-args-lts.Need-enum-known-e-2 (generic-args-calls t) (generic-args-at t) generic-args.Post generic-args-Inv-loop generic-args-μ-loop
-generic-args-enum-known-e-2 t c = search needs
+  generic-args-peek-requires : generic-args-lts.Need-peek-requires (generic-args-calls t) (generic-args-at t)
+      generic-args.Post generic-args-Inv-loop generic-args-μ-loop
+  generic-args-peek-requires c κs = behind (argument (search)) .inside
 
-generic-args-same-length-2 : (t : ℕ) → generic-args-lts.Need-same-length-2 (generic-args-calls t) (generic-args-at t) generic-args.Post generic-args-Inv-loop generic-args-μ-loop
-generic-args-same-length-2 t c = c .before .before .before .before .before .generic-arg2 .kept .1 .1 .0 ∙ c .before .before .before .before .before .before .before .before .before .before .loop .inv .long ∙ c .before .before .before .before .before .before .before .before .before .before .before .before .before .before .before .before .before .before .generic-arg .kept .1 .1 .0
+  generic-args-same-length-2 : generic-args-lts.Need-same-length-2 (generic-args-calls t) (generic-args-at t)
+      generic-args.Post generic-args-Inv-loop generic-args-μ-loop
+  generic-args-same-length-2 c = same-long (argument (search))
 
-generic-args-returns-2 : (t : ℕ) → generic-args-lts.Need-returns-2 (generic-args-calls t) (generic-args-at t) generic-args.Post generic-args-Inv-loop generic-args-μ-loop
-generic-args-returns-2 t c = λ x. record { by = list-bad type-arguments (c .before .before .before .before .before .before .before .before .before .before .before .before .before .before .before .before .before .before .before .before .before .before .before .args .allowance) (c .before .before .before .before .before .before .before .before .before .before .before .before .before .before .before .before .before .before .before .before .before .before .before .pre .1) (took-of (c .before .before .before .before .before .before .before .before .before .before .before .before .before .before .first .given .1) (c .before .before .before .before .before .before .before .before .before .before .before .before .before .before .before .before .before .before .generic-arg .ensures)) (c .before .before .before .before .before .before .before .before .before .before .loop .inv) (sym (c .before .before .before .before .before .before .before .before .before .peek .ensures) ∙ c .before .before .before .before .before .before .before .before .if1 .left) (c .before .before .before .before .before .before .bump .ensures) x (failed-of (c .before .e2 .given .1) (c .before .before .before .before .before .generic-arg2 .ensures)) }
+  generic-args-returns-2 : generic-args-lts.Need-returns-2 (generic-args-calls t) (generic-args-at t)
+      generic-args.Post generic-args-Inv-loop generic-args-μ-loop
+  generic-args-returns-2 c = list-over (argument (search)) type-arguments (c .before .peek .ensures) (c .if1 .taken)
 
-generic-args-enum-known-arg : (t : ℕ) → generic-args-lts.Need-enum-known-arg (generic-args-calls t) (generic-args-at t) generic-args.Post generic-args-Inv-loop generic-args-μ-loop
-generic-args-enum-known-arg t c = search needs
+  generic-args-bump-requires : generic-args-lts.Need-bump-requires (generic-args-calls t) (generic-args-at t)
+      generic-args.Post generic-args-Inv-loop generic-args-μ-loop
+  generic-args-bump-requires c κs = ready-small (behind (argument (search)))
 
-generic-args-add-count : (t : ℕ) → generic-args-lts.Need-add-count (generic-args-calls t) (generic-args-at t) generic-args.Post generic-args-Inv-loop generic-args-μ-loop
-generic-args-add-count t c = omega (arith, c .before .before .before .before .before .before .before .before .before .before .before .before .loop .inv .few, (c .before .before .before .before .before .before .before .before .before .before .before .before .loop .inv .ready .inside), c .before .before .before .before .before .before .before .before .before .before .before .before .loop .inv .ready .fits, (c .before .before .before .before .before .before .before .before .before .before .before .before .before .before .before .before .before .before .before .before .before .before .before .before .before .pre .1 .closed) .few)
+  generic-args-loop-less : generic-args-lts.Need-loop-less (generic-args-calls t) (generic-args-at t)
+      generic-args.Post generic-args-Inv-loop generic-args-μ-loop
+  generic-args-loop-less c =
+      let i = c .before in
+      let e = argument (search) in
+      let z = next-further e type-arguments (i .before .peek .ensures) (i .if1 .left) (c .bump .ensures) in
+      omega (arith, e .awaited .ready .inside)
 
-generic-args-loop-less : (t : ℕ) → generic-args-lts.Need-loop-less (generic-args-calls t) (generic-args-at t) generic-args.Post generic-args-Inv-loop generic-args-μ-loop
-generic-args-loop-less t c = omega (arith, (c .before .before .before .before .before .before .before .before .before .before .before .before .loop .inv .ready .inside), list-less type-arguments (c .before .before .before .before .before .before .before .before .before .before .before .before .before .before .before .before .before .before .before .before .before .before .before .before .before .args .allowance) (c .before .before .before .before .before .before .before .before .before .before .before .before .before .before .before .before .before .before .before .before .before .before .before .before .before .pre .1) (took-of (c .before .before .before .before .before .before .before .before .before .before .before .before .before .before .before .before .first .given .1) (c .before .before .before .before .before .before .before .before .before .before .before .before .before .before .before .before .before .before .before .before .generic-arg .ensures)) (c .before .before .before .before .before .before .before .before .before .before .before .before .loop .inv) (sym (c .before .before .before .before .before .before .before .before .before .before .before .peek .ensures) ∙ c .before .before .before .before .before .before .before .before .before .before .if1 .left) (c .before .before .before .before .before .before .before .before .bump .ensures) (took-of (c .before .before .before .arg .given .1) (c .before .before .before .before .before .before .before .generic-arg2 .ensures)))
-
-generic-args-loop-again : (t : ℕ) → generic-args-lts.Need-loop-again (generic-args-calls t) (generic-args-at t) generic-args.Post generic-args-Inv-loop generic-args-μ-loop
-generic-args-loop-again t c = list-on type-arguments (c .before .before .before .before .before .before .before .before .before .before .before .before .before .before .before .before .before .before .before .before .before .before .before .before .before .args .allowance) (c .before .before .before .before .before .before .before .before .before .before .before .before .before .before .before .before .before .before .before .before .before .before .before .before .before .pre .1) (took-of (c .before .before .before .before .before .before .before .before .before .before .before .before .before .before .before .before .first .given .1) (c .before .before .before .before .before .before .before .before .before .before .before .before .before .before .before .before .before .before .before .before .generic-arg .ensures)) (c .before .before .before .before .before .before .before .before .before .before .before .before .loop .inv) (sym (c .before .before .before .before .before .before .before .before .before .before .before .peek .ensures) ∙ c .before .before .before .before .before .before .before .before .before .before .if1 .left) (c .before .before .before .before .before .before .before .before .bump .ensures) (took-of (c .before .before .before .arg .given .1) (c .before .before .before .before .before .before .before .generic-arg2 .ensures)) refl (c .before .before .before .before .before .before .before .generic-arg2 .kept .1 .1 .0)
-
-generic-args-same-length-3 : (t : ℕ) → generic-args-lts.Need-same-length-3 (generic-args-calls t) (generic-args-at t) generic-args.Post generic-args-Inv-loop generic-args-μ-loop
-generic-args-same-length-3 t c = c .before .before .before .before .before .generic-arg .kept .1 .1 .0
-
-generic-args-returns-3 : (t : ℕ) → generic-args-lts.Need-returns-3 (generic-args-calls t) (generic-args-at t) generic-args.Post generic-args-Inv-loop generic-args-μ-loop
-generic-args-returns-3 t c = λ x. record { by = list-none moreTypeArgs (c .before .before .before .before .before .before .before .before .before .before .args .allowance) x (failed-of (c .before .e .given .1) (c .before .before .before .before .before .generic-arg .ensures)) }
+  generic-args-loop-again : generic-args-lts.Need-loop-again (generic-args-calls t) (generic-args-at t)
+      generic-args.Post generic-args-Inv-loop generic-args-μ-loop
+  generic-args-loop-again c =
+      let i = c .before in
+      next-awaits (argument (search)) type-arguments (i .before .peek .ensures) (i .if1 .left) (c .bump .ensures)
 
 ty-peek-requires : (t : ℕ) → ty-lts.Need-peek-requires (ty-calls t) (ty-at t) ty.Post
 ty-peek-requires t c κs = c .before .before .before .pre .1 .inside
@@ -221,5 +258,9 @@ pub +generic-arg+generic-args+ty-spec : {M : Type 1} → statement M
 +generic-arg+generic-args+ty-spec =
     close μ-generic-arg μ-generic-args μ-ty
     (λ t. generic-arg-lts.spec (generic-arg-calls t) (generic-arg-at t) generic-arg.Post (generic-arg-peek-requires t) (generic-arg-int-arg-requires t) (generic-arg-same-length t) (generic-arg-returns t) (generic-arg-enter-requires t) (generic-arg-enum-known-e t) (generic-arg-enum-known-less t) (generic-arg-ty-requires t) (generic-arg-returns-2 t) (generic-arg-same-length-2 t) (generic-arg-returns-3 t))
-    (λ t. generic-args-lts.spec (generic-args-calls t) (generic-args-at t) generic-args.Post generic-args-Inv-loop generic-args-μ-loop (generic-args-generic-arg-requires t) (generic-args-enum-known-e t) (generic-args-enum-known-first t) (generic-args-loop-holds t) (generic-args-peek-requires t) (generic-args-same-length t) (generic-args-returns t) (generic-args-bump-requires t) (generic-args-generic-arg-requires-2 t) (generic-args-enum-known-e-2 t) (generic-args-same-length-2 t) (generic-args-returns-2 t) (generic-args-enum-known-arg t) (generic-args-add-count t) (generic-args-loop-less t) (generic-args-loop-again t) (generic-args-same-length-3 t) (generic-args-returns-3 t))
+    (λ t. generic-args-lts.spec (generic-args-calls t) (generic-args-at t) generic-args.Post generic-args-Inv-loop
+    generic-args-μ-loop (generic-args-loop-holds t) (generic-args-generic-arg-requires t) (λ c. search needs)
+    (generic-args-same-length t) (generic-args-returns t) (λ c. search needs) (generic-args-add-count t)
+    (generic-args-peek-requires t) (generic-args-same-length-2 t) (generic-args-returns-2 t)
+    (generic-args-bump-requires t) (generic-args-loop-less t) (generic-args-loop-again t))
     λ t. ty-lts.spec (ty-calls t) (ty-at t) ty.Post (ty-peek-requires t) (ty-bump-requires t) (ty-peek-requires-2 t) (ty-leaf-requires t) (ty-same-length t) (ty-returns t) (ty-bump-requires-2 t) (ty-generic-args-requires t) (ty-enum-known-e t) (ty-enum-known-args t) (ty-close-args-requires t) (ty-err-requires t) (ty-same-length-2 t) (ty-returns-2 t) (ty-same-length-3 t) (ty-returns-3 t) (ty-returns-4 t)
