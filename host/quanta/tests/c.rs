@@ -51,6 +51,32 @@ fn a_contract_is_read_in_c() {
     assert!(said.lines().last().unwrap().starts_with("N 1 0 226 "));
 }
 
+// The most that a call may take of the stack, in bytes: docs/PERFORMANCE.md has what it takes. A word table of more than
+// 8,192 bytes has an index of 32 KiB.
+const DEEPEST: usize = if cfg!(feature = "terminal") {
+    16 * 1024
+} else {
+    128 * 1024
+};
+const LONG_TABLE: usize = 44 * 1024;
+
+#[test]
+fn calls_keep_to_little_stack() {
+    let output = run(&compiled("cc", "gnu11", "stack.c"), &[]);
+    let said = String::from_utf8(output.stdout).unwrap();
+    assert_eq!(said.lines().count(), 14, "{said}");
+    for line in said.lines() {
+        let fields: Vec<&str> = line.split(' ').collect();
+        let deepest = match fields[0] {
+            "table-of-8200-bytes" | "table-of-65536-bytes" => LONG_TABLE,
+            _ => DEEPEST,
+        };
+        assert!(fields[2].parse::<usize>().unwrap() <= deepest, "{line}");
+        let refused = ["64-parentheses", "65-types"].contains(&fields[0]);
+        assert_eq!(fields[1], if refused { "20" } else { "0" }, "{line}");
+    }
+}
+
 #[test]
 fn the_header_is_cpp_too() {
     let output = run(&compiled("c++", "c++11", "header.cpp"), &[]);
