@@ -19,16 +19,7 @@ use Rattle.quanta_cursor.specs.Tokens.{size, from}
 use Rattle.quanta_cursor.specs.Tree.{Laid, lay}
 use Rattle.quanta_cursor.specs.Answers.{single, shown, Failed, Took, TookAll, Answers, AnswersAll, Meets, MeetsAll}
 use Rattle.quanta_cursor.proofs.Places.{from-length}
-
--- the same answer; and where it is a node, the same words: records, spans and counts
-pub record Agree (r : Parsed) (t : List ℕ) (r′ : Parsed) (t′ : List ℕ) : Type 0 where
-  pub answer : r ≡ r′
-  pub words : (m : Node) → r ≡ parsed.Node m → t ≡ t′
-
--- .. of a list: with the count of its nodes
-pub record AgreeAll (r : Listed) (t : List ℕ) (r′ : Listed) (t′ : List ℕ) : Type 0 where
-  pub answer : r ≡ r′
-  pub words : (m : Nodes) → r ≡ listed.Nodes m → t ≡ t′
+use Rattle.quanta_engine.specs.Agreement.{Agree, AgreeAll}
 
 -- A NODE by its numbers
 node : ℕ → ℕ → ℕ → ℕ → ℕ → Node

@@ -28,7 +28,7 @@ use Rattle.quanta_cursor.specs.Tokens.{size, kindAt, from, tokAt, Closed}
 use Rattle.quanta_cursor.specs.Tree.{putRec}
 use Rattle.quanta_cursor.specs.Answers.{Failed}
 use Rattle.quanta_cursor.specs.Cursor.{spanAt, errAt, deepAt, leafRec, leafNode}
-use Rattle.quanta_cursor.proofs.Places.{laid-none, past-as, past-in}
+use Rattle.quanta_cursor.proofs.Places.{past-as, past-in}
 use Rattle.quanta_cursor.proofs.Meeting.{failed-onward}
 use Rattle.quanta_expr.proofs.Phrases.{leaf-took, expr-deep, unary-deep, primary-none}
 use Rattle.quanta_expr.proofs.Phrases.{Wraps, at-checked, at-wrapping, wrap-unopened}
@@ -43,7 +43,7 @@ use Rattle.quanta_engine.specs.Frames.{tidy, climb, making, made, rest, 
 use Rattle.quanta_engine.specs.Turns.{opening, bracket, standing, Place, stack, Turns, Opens, Worded}
 use Rattle.quanta_engine.proofs.Inside.{expr-inside, primary-inside, prefix-inside}
 use Rattle.quanta_engine.proofs.Placed.{before}
-use Rattle.quanta_engine.proofs.Opened.{opened}
+use Rattle.quanta_engine.proofs.Opened.{newly, opened}
 
 not-prefix : (k : ℕ) → T (has literal k) → T (has prefixes k) → ⊥
 not-prefix k t = yes-not (has prefixes k) (all-at (λ k. not (has prefixes k)) literal k tt t)
@@ -169,26 +169,11 @@ module _ {ws : List ℕ} {e : Opening} {s : State} {tree : List ℕ} (r : s .ran
       let k = rest src ws (stack h) 7 in
       let f = framed prefixed (opening (s .node .at) span (nodeCode unary-node) flag 1 8 a) none tree (many s) in
       opened h f
-      (record {
-        spent = λ x y. failed-onward k (st .so) (unary-deep src ws (here s) a i w q l y);
-        so = λ b y. st .so ∙ prefix-inside src ws (here s) i a b k (w .0) q y
-            ∙ onward-same (reads unary b (from src ws (p .0)) fresh) _ _
-            (λ y r. ap (λ (u : Span). k (made′ src u y) r) (sym d));
-        fits = record {
-          ranked = refl;
-          kinded = refl;
-          flagged = w .1;
-          counted = refl;
-          small = omega (arith, h .task .closed .few);
-          low = omega (arith, h .fits .low);
-          seated = omega arith;
-        };
-        lies = st .lies;
-        laid = laid-none;
-        inside = omega arith;
-        behind = omega arith;
-        even = omega (arith, h .stands .even);
-      })
+      (newly h prefixed span refl (omega arith) refl refl (w .1) (omega arith) (omega arith) (st .lies)
+      (λ x y. failed-onward k (st .so) (unary-deep src ws (here s) a i w q l y))
+      (λ b y. st .so ∙ prefix-inside src ws (here s) i a b k (w .0) q y
+      ∙ onward-same (reads unary b (from src ws (p .0)) fresh) _ _
+      (λ y r. ap (λ (u : Span). k (made′ src u y) r) (sym d))))
       z
     where
       made′ : List ℕ → Span → Acc → Acc
@@ -219,24 +204,8 @@ module _ {ws : List ℕ} {e : Opening} {s : State} {tree : List ℕ} (r : s .ran
       let P = phrases.opened src ws (here s) (e .allowance) i k q .so in
       let m = mark nothing pass apart [] in
       opened h (framed parens (bracket ws 1 (s .node .at) (e .allowance)) none tree (many s))
-      (record {
-        spent = bracket-spent h r np m tidy (p .0) hp P;
-        so = bracket-so h r np m tidy (p .0) hp P;
-        fits = record {
-          ranked = refl;
-          kinded = refl;
-          flagged = refl;
-          counted = refl;
-          small = omega (arith, h .task .closed .few);
-          low = omega (arith, h .fits .low);
-          seated = omega arith;
-        };
-        lies = before h r .lies;
-        laid = laid-none;
-        inside = hp;
-        behind = omega arith;
-        even = omega (arith, h .stands .even);
-      })
+      (newly h parens (spanAt ws (here s)) refl (omega arith) refl refl refl hp (omega arith) (before h r .lies)
+      (bracket-spent h r np m tidy (p .0) hp P) (bracket-so h r np m tidy (p .0) hp P))
       z
 
   -- A KEYWORD, `checked` or `wrapping`: and its `(`, or another token
@@ -268,22 +237,7 @@ module _ {ws : List ℕ} {e : Opening} {s : State} {tree : List ℕ} (r : s .ran
         let m = making (nodeCode (keywordNode (v .word))) in
         let X = beside apart (leave outs own widens (tokAt src ws (here s)) fresh) in
         opened h (framed (wraps (v .word)) (bracket ws kind (s .node .at) (e .allowance)) none tree (many s))
-        (record {
-          spent = bracket-spent h r (unsigned v) m X (p .0) hp P;
-          so = bracket-so h r (unsigned v) m X (p .0) hp P;
-          fits = record {
-            ranked = refl;
-            kinded = v .makes;
-            flagged = keyword-flagless (v .word) (kindAt ws (here s));
-            counted = refl;
-            small = omega (arith, c .few);
-            low = omega (arith, h .fits .low);
-            seated = omega arith;
-          };
-          lies = before h r .lies;
-          laid = laid-none;
-          inside = hp;
-          behind = omega (arith, y .1);
-          even = omega (arith, h .stands .even);
-        })
+        (newly h (wraps (v .word)) (spanAt ws (here s)) refl (omega arith) refl (v .makes)
+        (keyword-flagless (v .word) (kindAt ws (here s))) hp (omega (arith, y .1)) (before h r .lies)
+        (bracket-spent h r (unsigned v) m X (p .0) hp P) (bracket-so h r (unsigned v) m X (p .0) hp P))
         z

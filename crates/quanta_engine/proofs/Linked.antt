@@ -125,22 +125,22 @@ link-turn {ws} {e} {s} {tree} {kind} {level} {a} {flag} {q} {x} c v y i d σ h =
     let m : level ≡ rankOf (w .level) = n ∙ w .is in
     let lo : rankAt (stack h) < rankOf (w .level) = omega (arith, c .tighter, h .fits .ranked) in
     let f = y ∙ ap (flagOf (outs .flags) (nodeCode binary-node)) (c .kinded) in
-    let past = linking-past c in
     let p = h .stands .phase in
+    let links-of : ℕ → Outcome = λ a.
+    onward (reads (links (w .level)) a (from (h .task .src) ws (here s)) (nodeAt (z .behind)))
+    (rest (h .task .src) ws (stack h) (rankOf (w .level) - 1)) in
+    let j : (a + length (h .below) ≤ h .task .b) × (h .task .o ≡ links-of a) =
     either level (s .rank)
     (λ b.
-    let j = v .chained b in
-    infix-turn h z (w .level) (w .op) lo a (omega (arith, z .behind .low))
-    (chained (h .task) (stack h) (h .stands .inside) (w .level) (w .is) lo p (z .behind) (z .past)
-    (sym m ∙ b ∙ h .stands .told)
-    ∙ ap (λ (a : ℕ). onward (reads (links (w .level)) a (from (h .task .src) ws (here s)) (nodeAt (z .behind)))
-    (rest (h .task .src) ws (stack h) (rankOf (w .level) - 1))) (sym j))
-    m f i past d)
+    let u = v .chained b in (
+      omega (arith, z .behind .low),
+      chained (h .task) (stack h) (h .stands .inside) (w .level) (w .is) lo p (z .behind) (z .past)
+          (sym m ∙ b ∙ h .stands .told) ∙ ap links-of (sym u),
+    ))
     (λ b.
-    let j = v .first b in
-    infix-turn h z (w .level) (w .op) lo a (omega (arith, h .fits .low))
-    (unchained (h .task) (stack h) (h .stands .inside) (w .level) (w .is) lo p (z .behind) (z .past)
-    (λ u. b (m ∙ u ∙ sym (h .stands .told)))
-    ∙ ap (λ (a : ℕ). onward (reads (links (w .level)) a (from (h .task .src) ws (here s)) (nodeAt (z .behind)))
-    (rest (h .task .src) ws (stack h) (rankOf (w .level) - 1))) (sym j))
-    m f i past d)
+    let u = v .first b in (
+      omega (arith, h .fits .low),
+      unchained (h .task) (stack h) (h .stands .inside) (w .level) (w .is) lo p (z .behind) (z .past)
+          (λ t. b (m ∙ t ∙ sym (h .stands .told))) ∙ ap links-of (sym u),
+    )) in
+    infix-turn h z (w .level) (w .op) lo a (j .0) (j .1) m f i (linking-past c) d

@@ -45,7 +45,9 @@ returns-4 : tie.Need-returns-4 Inv-loop μ-loop
 returns-4 c = refused (not-zero _ _ (search needs) (c .if4 .taken))
 
 returns-5 : tie.Need-returns-5 Inv-loop μ-loop
-returns-5 c = refused (not-eof _ _ (search needs) (c .if5 .taken))
+returns-5 c =
+    let ws = c .before .before .before .before .before .before .before .before .args .tokens .now in
+    refused (not-eof ws (c .before .before .before .before .loop .i) (search needs) (search needs))
 
 add-i : tie.Need-add-i Inv-loop μ-loop
 add-i c = search needs
@@ -56,7 +58,7 @@ loop-less c = search needs
 loop-again : tie.Need-loop-again Inv-loop μ-loop
 loop-again c =
     let before = c .before .before .before .before .loop .inv .1 in
-    (search needs, below-more _ _ before (omega arith, c .if5 .left))
+    (search needs, below-more _ _ before (omega arith, omega arith))
 
 mul-result : tie.Need-mul-result Inv-loop μ-loop
 mul-result c = search needs
