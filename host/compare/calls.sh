@@ -5,7 +5,6 @@
 #   calls.sh terminal    through the signing terminal's
 # Prints each command with its count and how far it is; the last line is 'N cases, D disagreements'. Exit status 1 where any disagree.
 set -uo pipefail
-cd "$(dirname "${BASH_SOURCE[0]}")/.." || exit 2
 case ${1-} in
 '') folder=target options=() ;;
 terminal) folder=target/terminal options=(--features terminal) ;;
@@ -14,6 +13,7 @@ terminal) folder=target/terminal options=(--features terminal) ;;
     exit 2
     ;;
 esac
+cd "$(dirname "${BASH_SOURCE[0]}")/.." || exit 2
 cargo build --release --offline -p compare --target-dir "$folder" "${options[@]}" || exit 2
 cases=0
 disagreements=0

@@ -15,9 +15,6 @@ case ${1-} in
 keep | replay) ;;
 '' | *[!0-9]*) usage ;;
 esac
-file=
-[ "$1" != replay ] || file=$(realpath "${2?which input}")
-cd "$(dirname "${BASH_SOURCE[0]}")/.."
 work=target/fuzz
 feature=()
 case ${BUILD-desk} in
@@ -25,6 +22,9 @@ desk) ;;
 terminal) work=target/fuzz-terminal feature=(--features terminal) ;;
 *) usage ;;
 esac
+file=
+[ "$1" != replay ] || file=$(realpath "${2?which input}")
+cd "$(dirname "${BASH_SOURCE[0]}")/.."
 triple=x86_64-unknown-linux-gnu
 flags="-C passes=sancov-module -C codegen-units=1 -C debuginfo=1"
 for pass in level=4 inline-8bit-counters pc-table trace-compares; do
