@@ -1,6 +1,6 @@
 #!/usr/bin/env bash
 # The whole comparison of the five proved calls with the original: answers and every word of both buffers, which hold rubbish
-# before each call. Some 12 million cases, a quarter of an hour or more.
+# before each call. Some 12 million cases, five minutes or more.
 #   calls.sh             through the desk's archive
 #   calls.sh terminal    through the signing terminal's
 # Prints each command with its count and how far it is; the last line is 'N cases, D disagreements'. Exit status 1 where any disagree.

@@ -77,10 +77,10 @@ fn rooms() {
     }
 }
 
-// Each word of a table is found, wherever it stands in it.
+// Each word of a table is found, wherever it stands in it. The table of 1,038 words is the longest with a short index.
 #[test]
 fn every_word_of_a_table() {
-    for count in [1, 2, 60, 100, 4000] {
+    for count in [1, 2, 60, 100, 1038, 1039, 4000] {
         let words: Vec<String> = (0..count)
             .map(|n| format!("w{}", n * 7919 % 10_007))
             .collect();
