@@ -37,6 +37,7 @@ use Rattle.quanta_engine.specs.declared.expr.Opening.{Opening}
 use Rattle.quanta_engine.specs.declared.expr.State.{State}
 use Rattle.quanta_engine.specs.declared.expr.Turn.{Turn}
 use Rattle.quanta_engine.specs.declared.expr.Turn.the-variants as turn
+use Rattle.quanta_engine.specs.Ranks.{operandRank}
 use Rattle.quanta_engine.specs.Frames.{Keyword, checked, wrapping, keywordCode, keywordNode}
 use Rattle.quanta_engine.specs.Frames.{Shape, parens, prefixed, wraps, framed, here, many}
 use Rattle.quanta_engine.specs.Frames.{tidy, climb, making, made, rest, resume, afterwards}
@@ -71,7 +72,7 @@ keyword-at checked src ws i a h e = at-checked src ws i a h e
 keyword-at wrapping src ws i a h e = at-wrapping src ws i a h e
 
 module _ {ws : List ℕ} {σ : Shape} {e : Opening} {s : State} {tree : List ℕ} (h : Place ws σ e s tree)
-    (r : s .rank ≡ 9) where
+    (r : s .rank ≡ operandRank) where
   open Place h using (task, stands)
 
   -- behind a primary come its suffixes, and the levels over it
@@ -119,7 +120,7 @@ module _ {ws : List ℕ} {σ : Shape} {e : Opening} {s : State} {tree : List ℕ
           ∙ ap (λ (a : ℕ). onward (reads unary b (from (task .src) ws p) fresh)
           (λ y r. onward (climb 0 7 b y r) (λ z q. closed a (tidy z) q))) a
 
-module _ {ws : List ℕ} {e : Opening} {s : State} {tree : List ℕ} (r : s .rank ≡ 9) where
+module _ {ws : List ℕ} {e : Opening} {s : State} {tree : List ℕ} (r : s .rank ≡ operandRank) where
   -- a token that is all of the operand
   pub leaf-turn : {k : ℕ} {m : Node} {tree′ : List ℕ}
       → T (has literal (kindAt ws (here s))) × (k ≡ leafKind (outs .leafs) (kindAt ws (here s)))

@@ -16,7 +16,7 @@ use Rattle.quanta_engine.specs.declared.expr.Opening.{Opening}
 use Rattle.quanta_engine.specs.declared.expr.State.{State}
 use Rattle.quanta_engine.specs.declared.expr.Turn.{Turn}
 use Rattle.quanta_engine.specs.declared.expr.Turn.the-variants as turn
-use Rattle.quanta_engine.specs.Ranks.{rankOf, rank}
+use Rattle.quanta_engine.specs.Ranks.{rankOf, prefixRank, operandRank, rank}
 use Rattle.quanta_engine.specs.Frames.{Keyword, checked, wrapping, keywordNode, Shape, Frame, rankAt, here}
 use Rattle.quanta_engine.specs.Frames.{many, Phase, operands, afterwards, linking, phaseNo, Task, Before, Behind}
 use Rattle.quanta_engine.specs.Frames.{Standing}
@@ -30,12 +30,13 @@ Past ws afterwards F i = (kindAt ws i ≡ code Dot → ⊥) × (kindAt ws i ≡ 
 Past ws (linking v) F i = (rankAt F < rankOf v) × (rank (kindAt ws i) ≤ rankOf v)
 
 module _ {ws : List ℕ} (j : Task ws) (F : List Frame) (s : State) (tree : List ℕ) where
-  before-by : (p : Phase) → s .rank ≡ phaseNo p → s .rank ≡ 9 → Standing j F s tree p → Before j F s tree
+  before-by : (p : Phase) → s .rank ≡ phaseNo p → s .rank ≡ operandRank → Standing j F s tree p → Before j F s tree
   before-by operands e r b = b
   before-by afterwards e r b = absurd (omega arith)
   before-by (linking v) e r b = let z = rank-some v in absurd (omega (arith, z .1))
 
-  after-by : (p : Phase) → s .rank ≡ phaseNo p → s .rank ≡ 8 → Standing j F s tree p → Behind j F s tree afterwards
+  after-by : (p : Phase) → s .rank ≡ phaseNo p → s .rank ≡ prefixRank → Standing j F s tree p
+      → Behind j F s tree afterwards
   after-by operands e r b = absurd (omega arith)
   after-by afterwards e r b = b
   after-by (linking v) e r b = let z = rank-some v in absurd (omega (arith, z .1))
@@ -48,10 +49,10 @@ module _ {ws : List ℕ} (j : Task ws) (F : List Frame) (s : State) (tree : List
 
 module _ {ws : List ℕ} {σ : Shape} {e : Opening} {s : State} {tree : List ℕ} (h : Place ws σ e s tree) where
   -- before an operand; before a suffix
-  pub before : s .rank ≡ 9 → Before (h .task) (stack h) s tree
+  pub before : s .rank ≡ operandRank → Before (h .task) (stack h) s tree
   before r = before-by (h .task) (stack h) s tree (h .stands .phase) (h .stands .told) r (h .stands .by)
 
-  pub after : s .rank ≡ 8 → Behind (h .task) (stack h) s tree afterwards
+  pub after : s .rank ≡ prefixRank → Behind (h .task) (stack h) s tree afterwards
   after r = after-by (h .task) (stack h) s tree (h .stands .phase) (h .stands .told) r (h .stands .by)
 
   -- where no suffix follows
