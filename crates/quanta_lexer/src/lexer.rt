@@ -111,7 +111,8 @@ fn run(
     }
 }
 
-// A table of at most so many bytes has at most so many records: its index is made at every call, and takes little to clear.
+// A table of at most so many bytes has at most so many records: its index is on every call's stack, and takes little to
+// clear.
 const SHORT_TABLE: usize = 8192;
 
 const SHORT_INDEX: usize = 2048;
@@ -128,8 +129,8 @@ fn run_indexed(src: &[u8], words: &[u8], index: &mut [u16], tokens: &mut [u32]) 
     run(&chart(), src, words, &sift(words), &index[..n], tokens)
 }
 
-// The tokens under a long table. The compiler keeps a function that calls itself out of its callers, so that the long index is on
-// the stack under long tables only; the turn more has no other use.
+// The tokens under a long table. The compiler keeps a function that calls itself out of its callers, so that the long
+// index is on the stack under long tables only; the turn more has no other use.
 fn run_long(src: &[u8], words: &[u8], tokens: &mut [u32], again: bool) -> Read
     requires { ⌜ length (now src) ≤ sourceLimit ⌝ }
     ensures { λ r. ⌜ Ran (now (src .entry)) (now (words .entry)) (now (tokens .entry)) (now (tokens .exit)) r ⌝ }

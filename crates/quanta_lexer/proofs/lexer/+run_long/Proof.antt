@@ -35,5 +35,6 @@ run-long-requires t c κs =
 
 pub +run-long-spec : {M : Type 1} → statement M
 +run-long-spec =
-    close μ-run-long λ t. run-long-lts.spec (calls t) (run-long-at t) run-long.Post (run-long-requires t) (λ c. search needs)
-    (λ c. search needs) (λ c. search needs) (λ c κs. search needs) (λ c. search needs) (λ c. search needs)
+    close μ-run-long λ t. run-long-lts.spec (calls t) (run-long-at t) run-long.Post (run-long-requires t)
+    (λ c. search needs) (λ c. search needs) (λ c. search needs) (λ c κs. search needs) (λ c. search needs)
+    (λ c. search needs)
