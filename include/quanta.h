@@ -9,7 +9,7 @@
  * Stack that a call was seen to take at most (docs/PERFORMANCE.md): 127 KB of the desk's archive, 15 KB of the
  * terminal's; under a word table of more than 8,192 bytes 41 KB of either, if that is more.
  *
- * Document 01 (docs/01-scope.md) says what each answer is.
+ * Document 01 (docs/01-scope.md) says what each answer is, and for edition 2 request R-6 of document 02.
  */
 #ifndef QUANTA_H
 #define QUANTA_H
@@ -36,7 +36,7 @@ extern "C" {
 
 /*
  * The answer of a call. Number 0 is acceptance, with the numbers of tokens and tree records; all else
- * is 0. Numbers 1 to 23 are refusals: start and end mark bytes of the source (of the word table for 1),
+ * is 0. All other numbers are refusals: start and end mark bytes of the source (of the word table for 1),
  * wanted and found are kinds of tokens, need is a number of records (11 and 23); fields that a refusal
  * does not name are 0, tokens and records among them.
  */
@@ -76,33 +76,41 @@ enum quanta_number {
     QUANTA_TOO_DEEP = 20,
     QUANTA_BAD_TARGET = 21,
     QUANTA_TRAILING = 22,
-    QUANTA_TREE_ROOM = 23
+    QUANTA_TREE_ROOM = 23,
+    QUANTA_NO_DAY = 28,
+    QUANTA_UNKNOWN_EDITION = 29
 };
 
 /*
- * The five calls. Each reads `source` under the word table `words` and writes every word of `tokens` and
- * of `tree`: on acceptance the records at the front and zeros behind; after 1 to 11 zeros in both; after
- * 12 to 23 the tokens as on acceptance and a tree of zeros.
+ * The five calls. Each reads `source` by the rules of an edition and under the word table `words`, and writes
+ * every word of `tokens` and of `tree`: on acceptance the records at the front and zeros behind; after 1 to
+ * 11, 28 and 29 zeros in both; after 12 to 23 the tokens as on acceptance and a tree of zeros.
+ *
+ * The edition of the reading rules is 1 or 2; any other is refused by 29, before all other tests. In edition
+ * 2 a `>>` where a type list must close counts as two closers of one byte each, though it stays one token;
+ * and a date must be a day of the Gregorian calendar, year 0000 included: 28 marks the first that is none,
+ * where no refusal of 6 to 10 comes before it in the source. Whatever both editions accept has the same
+ * records.
  *
  * Lengths are in elements. The four areas may not overlap where one of them is written; what the buffers
  * held before does not matter. A pointer whose length is 0 is not followed, so it may be any pointer.
- * Nothing else is asked: every source, every table and every length has its answer.
+ * Nothing else is asked: every edition, every source, every table and every length has its answer.
  */
-quanta_answer quanta_parse(const uint8_t *source, size_t source_len, const uint8_t *words,
-                           size_t words_len, uint32_t *tokens, size_t tokens_len, uint32_t *tree,
-                           size_t tree_len);
-quanta_answer quanta_parse_item(const uint8_t *source, size_t source_len, const uint8_t *words,
-                                size_t words_len, uint32_t *tokens, size_t tokens_len,
-                                uint32_t *tree, size_t tree_len);
-quanta_answer quanta_parse_stmt(const uint8_t *source, size_t source_len, const uint8_t *words,
-                                size_t words_len, uint32_t *tokens, size_t tokens_len,
-                                uint32_t *tree, size_t tree_len);
-quanta_answer quanta_parse_expr(const uint8_t *source, size_t source_len, const uint8_t *words,
-                                size_t words_len, uint32_t *tokens, size_t tokens_len,
-                                uint32_t *tree, size_t tree_len);
-quanta_answer quanta_parse_type(const uint8_t *source, size_t source_len, const uint8_t *words,
-                                size_t words_len, uint32_t *tokens, size_t tokens_len,
-                                uint32_t *tree, size_t tree_len);
+quanta_answer quanta_parse(uint32_t edition, const uint8_t *source, size_t source_len,
+                           const uint8_t *words, size_t words_len, uint32_t *tokens,
+                           size_t tokens_len, uint32_t *tree, size_t tree_len);
+quanta_answer quanta_parse_item(uint32_t edition, const uint8_t *source, size_t source_len,
+                                const uint8_t *words, size_t words_len, uint32_t *tokens,
+                                size_t tokens_len, uint32_t *tree, size_t tree_len);
+quanta_answer quanta_parse_stmt(uint32_t edition, const uint8_t *source, size_t source_len,
+                                const uint8_t *words, size_t words_len, uint32_t *tokens,
+                                size_t tokens_len, uint32_t *tree, size_t tree_len);
+quanta_answer quanta_parse_expr(uint32_t edition, const uint8_t *source, size_t source_len,
+                                const uint8_t *words, size_t words_len, uint32_t *tokens,
+                                size_t tokens_len, uint32_t *tree, size_t tree_len);
+quanta_answer quanta_parse_type(uint32_t edition, const uint8_t *source, size_t source_len,
+                                const uint8_t *words, size_t words_len, uint32_t *tokens,
+                                size_t tokens_len, uint32_t *tree, size_t tree_len);
 
 /* Line and column, both from 1, a column in bytes. */
 typedef struct quanta_line_column {

@@ -6,8 +6,8 @@ CALLS=dict(parse='program',parse_item='item',parse_stmt='stmt',parse_expr='expr'
 SOURCED=('program','item','type')
 TABLE={}
 def call(f,k):
-    w='whole-'+k; n=f'{k}Call {SRC} {WORDS} {WT}'; e=f'@{w} .ensures' if k in SOURCED else f'@{w} .ensures {SRC}'
-    return dict(says=f'`quanta::calls::{f}` meets its contract.',uses=[OM,'lib.ListN.{length}','Rattle.quanta_grammar.specs.Productions.{'+k+'Call}','Rattle.quanta_grammar.specs.Reading.{'+k+'}',R+'Conforming.{lexical, short, stands, room, small, cut, whole}',R+'Faithful.{faithful}'],answers={
+    w='whole-'+k; n=f'(@args .edition) {k}Call {SRC} {WORDS} {WT}'; e=f'@{w} .ensures' if k in SOURCED else f'@{w} .ensures (text (@args .edition) {SRC})'
+    return dict(says=f'`quanta::calls::{f}` meets its contract.',uses=([] if k in SOURCED else ['Rattle.quanta_grammar.specs.Refine.{text}'])+[OM,'lib.ListN.{length}','Rattle.quanta_grammar.specs.Productions.{'+k+'Call}','Rattle.quanta_grammar.specs.Reading.{'+k+'}',R+'Conforming.{lexical, short, stands, room, small, cut, whole}',R+'Faithful.{faithful}'],answers={
   'returns':f'faithful {k} (lexical {n} {WR} {Z} (@number .given .1) (@refuse .ensures .0) {TW} (@refuse .ensures .1))',
   'returns-2':f'faithful {k} (short {n} {WR} {Z} (@need .given .1) (@no-token-room .ensures .0) {TW} (@no-token-room .ensures .1))',
   'mul-used':f'omega (arith, small {n} {A})',
@@ -15,12 +15,7 @@ def call(f,k):
   'slice-aggregate-'+w:f'cut {n} {A}',
   w+'-requires':f'stands {n} {A}',
   'returns-3':f'faithful {k} (whole {n} {A} (@{w} .result) ({e}) (omega arith) (@finish .ensures))'})
-def export(f,k):
-    p=f.replace('_','-')
-    return dict(says=f'`quanta::export::quanta_{f}` meets its contract.',uses=['Rattle.quanta_grammar.specs.Reading.{'+k+'}',R+'Numbers.{fits}'],answers={
-  'numbers-of-requires':f'fits {k} (@{p} .ensures .0)',
-  'returns':f'(@{p} .result, @numbers-of .ensures, @{p} .ensures .0, @{p} .ensures .1)'})
 for f,k in CALLS.items():
-    TABLE['calls/'+f]=call(f,k); TABLE['export/quanta_'+f]=export(f,k)
+    TABLE['calls/'+f]=call(f,k)
 TABLE['export/quanta_place']=dict(says='`quanta::export::quanta_place` meets its contract.',uses=['mathlib.Core.Path.{ap}','Rattle.quanta_text.specs.declared.place.LineColumn.{LineColumn}'],answers={
   'returns':'(ap (λ (p : LineColumn). p .line) (@place .ensures), ap (λ (p : LineColumn). p .column) (@place .ensures))'})

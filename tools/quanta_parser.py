@@ -4,7 +4,7 @@ C='Rattle.quanta_cursor.proofs.'
 OM='native.Mathlib.Omega.{arith}'
 NE='borrow.Author.Needs.{needs}'
 CODE='Rattle.quanta_token.specs.TokenKind.{code, %s}'
-SRC='(@args .src .now)'; WS='(@args .tokens .now)'; TR='(@args .tree .now)'; A='(@args .allowance)'
+SRC='(text (@args .edition) (@args .src .now))'; WS='(@args .tokens .now)'; TR='(@args .tree .now)'; A='(@args .allowance)'
 def at(x): return f'let z = {x} in (z .inside, z .closed .few)'
 TABLE={}
 
@@ -36,9 +36,9 @@ TABLE['program/import_names']=dict(says='`quanta_parser::program::import_names` 
 def closing(f): return dict(returns=f'closes-as (@peek-span .ensures) (@{f} .ensures)')
 TABLE['program/close_import']=dict(says='`quanta_parser::program::close_import` meets its contract.',uses=[C+'Under.{closes-as}'],answers=closing('close-semi'))
 CH=['(@expect .ensures)','(@inside .given .1)','(@import-names .ensures)','(@names .given .1)','(@expect2 .ensures)','(@from .given .1)','(@expect3 .ensures)','(@path .given .1)','(@expect-str .ensures)','(@path2 .given .1)']
-def I(k,s='[]',a='0'): return f'{s} {WS} {a} (@pre .0) (@pre .1) (@bump .ensures) {TR} '+' '.join(CH[:k])
+def I(k,s='blank',a='0'): return f'{s} {WS} {a} (@pre .0) (@pre .1) (@bump .ensures) {TR} '+' '.join(CH[:k])
 def bad(law,k,e): return f'λ src a. failed ({law} {I(k,"src","a")} (@{e} .given .1))'
-TABLE['program/import_decl']=dict(says='`quanta_parser::program::import_decl` meets its contract.',uses=['mathlib.Core.Path.{_∙_}','mathlib.Core.List.{[]}',OM,CODE%'Import',C+'Meeting.{failed}',P+'Parts.{keyword-past, import-unopened, open-ready, import-nameless, names-ready, names-few, import-unclosed, shut-ready, import-fromless, from-ready, import-pathless, path-ready, import-met}'],answers={
+TABLE['program/import_decl']=dict(says='`quanta_parser::program::import_decl` meets its contract.',uses=['mathlib.Core.Path.{_∙_}','Rattle.quanta_grammar.specs.Refine.{blank}',OM,CODE%'Import',C+'Meeting.{failed}',P+'Parts.{keyword-past, import-unopened, open-ready, import-nameless, names-ready, names-few, import-unclosed, shut-ready, import-fromless, from-ready, import-pathless, path-ready, import-met}'],answers={
   'expect-requires':at('keyword-past (code Import) (λ u. u) (@pre .0) (@pre .1) (@bump .ensures)'),
   'import-names-requires':f'open-ready {I(2)}',
   'expect-requires-2':at(f'names-ready {I(4)}'),
@@ -60,8 +60,8 @@ TABLE['program/contract']=dict(says='`quanta_parser::program::contract` meets it
   'expect-requires':at(f'name-ready {K(2)}'),
   'items-requires':f'body-ready {K(4)}',
   'close-contract-requires':f'(full-ready {K(6)}, @pre .0 .inside, full-few {K(6)})',
-  'same-length-3':'@items .kept .1 .1 .0 ∙ @expect-ident .kept .1 .0',
-  'same-length-4':'@close-contract .kept .1 .0 ∙ @items .kept .1 .1 .0 ∙ @expect-ident .kept .1 .0',
+  'same-length-3':'@items .kept .1 .1 .1 .0 ∙ @expect-ident .kept .1 .0',
+  'same-length-4':'@close-contract .kept .1 .0 ∙ @items .kept .1 .1 .1 .0 ∙ @expect-ident .kept .1 .0',
   'returns':f'failed (contract-nameless {K(1)} (@e .given .1))','returns-2':f'failed (contract-unopened {K(3)} (@e2 .given .1))','returns-3':f'failed (contract-bad {K(5)} (@e3 .given .1))',
   'returns-4':f'contract-met {K(6)} (@close-contract .ensures)'})
 RUN=f'items-run {A} (@pre)'
@@ -69,16 +69,16 @@ GO=f'{RUN} (@loop .inv) (@peek .ensures) (@if1 .taken) (@peek2 .ensures) (@if2 .
 ITEM='(took-of (@item .given .1) (@contract-item .ensures))'
 TABLE['program/items']=dict(says='`quanta_parser::program::items` meets its contract: what is under way at the start of its loop is under way at each turn.',
   uses=['mathlib.Core.Path.{refl, _∙_}','Prim.Native.Nat.{_-_}',OM,NE,'Rattle.quanta_grammar.specs.Productions.{items}','Rattle.quanta_cursor.specs.Tokens.{size}',C+'Meeting.{took-of, failed-of, took-all, failed-all}',C+'Lists.{items-run}',C+'Listing.{Rolling, run-begun}','Rattle.quanta_cursor.proofs.Braces.{at-brace, at-eof, more-bad, more-on, more-less}'],
-  inv={'Inv-loop':"Rolling items src tokens allowance (at₀ .0) (no₀ .0) count₀ tree₀ (at .0) (no' .0) count tree",'μ-loop':'size tokens - at .0'},
+  inv={'Inv-loop':"Rolling items (text edition src) tokens allowance (at₀ .0) (no₀ .0) count₀ tree₀ (at .0) (no' .0) count tree",'μ-loop':'size tokens - at .0'},
   answers={
    'enum-known-e':'search needs','enum-known-item':'search needs',
    'loop-holds':f'run-begun {RUN}',
    'peek-requires':'@loop .inv .ready .inside','peek-requires-2':'@loop .inv .ready .inside','contract-item-requires':'@loop .inv .ready',
-   'same-length':'@contract-item .kept .1 .1 .0 ∙ @loop .inv .long',
+   'same-length':'@contract-item .kept .1 .1 .1 .0 ∙ @loop .inv .long',
    'returns':f'failed-all (more-bad {GO} (failed-of (@e .given .1) (@contract-item .ensures)))',
    'add-count':'omega (arith, @loop .inv .few, @loop .inv .ready .inside, @loop .inv .ready .fits, @pre .closed .few)',
    'loop-less':f'omega (arith, @loop .inv .ready .inside, more-less {GO} {ITEM})',
-   'loop-again':f'more-on {GO} {ITEM} refl (@contract-item .kept .1 .1 .0)',
+   'loop-again':f'more-on {GO} {ITEM} refl (@contract-item .kept .1 .1 .1 .0)',
    'same-length-2':'@loop .inv .long','same-length-3':'@loop .inv .long',
    'returns-2':f'took-all (at-eof {RUN} (@loop .inv) (@peek2 .ensures) (@if2 .left) refl refl refl)',
    'returns-3':f'took-all (at-brace {RUN} (@loop .inv) (@peek .ensures) (@if1 .left) refl refl refl)',
@@ -90,15 +90,15 @@ def run(fn,reader,node,many):
     s,a=('src','a') if many else (SRC,A)
     inv=lambda s,a: f'(@loop .inv {s} {a})' if many else '(@loop .inv)'
     ens=lambda s,a: f'(@{reader} .ensures {s} {a})' if many else f'(@{reader} .ensures)'
-    s0,a0=('[]','0') if many else (SRC,A)
+    s0,a0=('blank','0') if many else (SRC,A)
     V=inv(s0,a0)
     KM='(sym (@peek .ensures) ∙ @if1 .taken)'
     law=f'{fn}-law'
-    kept=f'@{reader} .kept .1 .0' if many else f'@{reader} .kept .1 .1 .0'
-    roll=f"Rolling {fn} src tokens {'a' if many else 'allowance'} (at₀ .0) (no₀ .0) span₀ tree₀ (at .0) (no' .0) count span tree"
+    kept=f'@{reader} .kept .1 .0' if many else f'@{reader} .kept .1 .1 .1 .0'
+    roll=f"Rolling {fn} {'src' if many else '(text edition src)'} tokens {'a' if many else 'allowance'} (at₀ .0) (no₀ .0) span₀ tree₀ (at .0) (no' .0) count span tree"
     return dict(says=f'`quanta_parser::program::{fn}` meets its contract: what is under way at the start of its loop is under way at each turn.',
-      uses=['mathlib.Core.Path.{refl, sym, _∙_}']+(['mathlib.Core.List.{List, []}'] if many else [])+['Prim.Native.Nat.{%s_-_}'%('ℕ, ' if many else ''),OM,NE,f'Rattle.quanta_grammar.specs.Productions.{{{fn}}}','Rattle.quanta_cursor.specs.Tokens.{size}',C+'Meeting.{took-of, failed-of}',P+f'Running.{{{law}, Rolling, run-begun, run-ends, run-bad, run-on, run-less}}'],
-      inv={'Inv-loop':('(src : List ℕ) (a : ℕ) → ' if many else '')+roll,'μ-loop':'size tokens - at .0'},
+      uses=['mathlib.Core.Path.{refl, sym, _∙_}']+(['Rattle.quanta_grammar.specs.Refine.{Text, blank}'] if many else [])+['Prim.Native.Nat.{%s_-_}'%('ℕ, ' if many else ''),OM,NE,f'Rattle.quanta_grammar.specs.Productions.{{{fn}}}','Rattle.quanta_cursor.specs.Tokens.{size}',C+'Meeting.{took-of, failed-of}',P+f'Running.{{{law}, Rolling, run-begun, run-ends, run-bad, run-on, run-less}}'],
+      inv={'Inv-loop':('(src : Text) (a : ℕ) → ' if many else '')+roll,'μ-loop':'size tokens - at .0'},
       answers={
        'enum-known-e':'search needs',f'enum-known-{reader if not many else "import"}':'search needs',
        'loop-holds':('λ src a. ' if many else '')+f'run-begun {law} {s} {a} (@pre)',
@@ -118,11 +118,11 @@ TABLE['program/contracts']=run('contracts','contract','contract2',False)
 # THE WHOLE READINGS
 def whole(fn,reader,node,call,many):
     s='src' if many else SRC
-    s0='[]' if many else SRC
+    s0='blank' if many else SRC
     q='λ src. ' if many else ''
     v=lambda s: f'{call} {s} (@pre) (@{reader} .ensures {s})' if many else f'{call} {s} (@pre) (@{reader} .ensures)'
     N=f'(@{node} .given .1)'
-    return dict(says=f'`quanta_parser::whole::{fn}` meets its contract.',uses=(['mathlib.Core.List.{[]}'] if many else [])+[P+f'Wholes.{{{call}, whole-bad, whole-inside, whole-more, whole-met}}'],answers={
+    return dict(says=f'`quanta_parser::whole::{fn}` meets its contract.',uses=(['Rattle.quanta_grammar.specs.Refine.{blank}'] if many else [])+[P+f'Wholes.{{{call}, whole-bad, whole-inside, whole-more, whole-met}}'],answers={
       f'{reader}-requires':'@pre',
       'expect-eof-requires':f'whole-inside {v(s0)} {N}',
       'returns':f'{q}whole-bad {v(s)} (@e .given .1)',
@@ -131,7 +131,6 @@ def whole(fn,reader,node,call,many):
 TABLE['whole/whole_item']=whole('whole_item','contract-item','item','item-call',False)
 TABLE['whole/whole_stmt']=whole('whole_stmt','statement','stmt','stmt-call',True)
 TABLE['whole/whole_expr']=whole('whole_expr','expr','expr2','expr-call',True)
-TABLE['whole/whole_type']=whole('whole_type','ty','ty2','type-call',False)
 CH3=[f'(@imports .ensures {SRC} 64)','(@imports2 .given .1)','(@contracts .ensures)','(@contracts2 .given .1)','(@expect-eof .ensures)','(@end .given .1)']
 def W(k): return f'{SRC} {WS} (@pre) {TR} '+' '.join(CH3[:k])
 TABLE['whole/whole_program']=dict(says='`quanta_parser::whole::whole_program` meets its contract.',uses=['mathlib.Core.Path.{_∙_}',OM,C+'Places.{ready-few}',P+'Wholes.{imports-bad, imported-ready, contracts-bad, program-ready, program-few, program-more, program-small, program-met}'],answers={
@@ -140,7 +139,7 @@ TABLE['whole/whole_program']=dict(says='`quanta_parser::whole::whole_program` me
   'expect-eof-requires':f'program-ready {W(4)} .inside',
   'add-children':f'omega (arith, program-few {W(4)})',
   'put-requires':f'(ready-few (program-ready {W(4)}), program-small {W(6)})',
-  'same-length-2':'@contracts .kept .1 .1 .0 ∙ @imports .kept .1 .0','same-length-3':'@contracts .kept .1 .1 .0 ∙ @imports .kept .1 .0',
-  'same-length-4':'@put .kept .0 ∙ @contracts .kept .1 .1 .0 ∙ @imports .kept .1 .0',
+  'same-length-2':'@contracts .kept .1 .1 .1 .0 ∙ @imports .kept .1 .0','same-length-3':'@contracts .kept .1 .1 .1 .0 ∙ @imports .kept .1 .0',
+  'same-length-4':'@put .kept .0 ∙ @contracts .kept .1 .1 .1 .0 ∙ @imports .kept .1 .0',
   'returns':f'record {{ by = imports-bad {W(1)} (@e .given .1) }}','returns-2':f'record {{ by = contracts-bad {W(3)} (@e2 .given .1) }}','returns-3':f'record {{ by = program-more {W(5)} (@e3 .given .1) }}',
   'returns-4':f'record {{ by = program-met {W(6)} (@peek-span .ensures) (@join .ensures) (@put .ensures .0) (@put .ensures .1) }}'})

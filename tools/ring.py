@@ -43,7 +43,7 @@ def level(m,g,single):
      f'{g}-requires':f'({FALL}, {RD})',
      'same-length':f'@{g} .kept .1 .0',
      'returns':f'λ src. failed-by (@enum-told .given .1) (level-bad {v} src {WS} {AT} {A} (failed-of (@enum-told .given .1) (@{g} .ensures src)))',
-     'loop-holds':f'chain-in (took-ready [] {og} {A} {RD} (took-of (@first .given .1) (@{g} .ensures [])))',
+     'loop-holds':f'chain-in (took-ready blank {og} {A} {RD} (took-of (@first .given .1) (@{g} .ensures blank)))',
      'peek-requires':LI,
      'same-length-2':long,'same-length-3':long,'same-length-4':f'@{g}2 .kept .1 .0 ∙ {long}',
      'returns-2':f'λ src. took (link-stop {v} {start} {LI} {no})',
@@ -52,9 +52,9 @@ def level(m,g,single):
      'returns-3':f'λ src. let z = spent-of (@e .given .1) (@enter .ensures) in failed (link-deep {v} {start} {LI} {op} (@bump .ensures) {past} (z .0) (z .1))',
      f'{g}-requires-2':f'let z = {LEFT} in (omega (arith, z .0, z .1, @loop .inv .less, @pre .0), {nxt})',
      'returns-4':f'λ src. failed (link-bad {v} {start} {LI} {op} (@bump .ensures) {LEFT} (failed-of (@e2 .given .1) (@{g}2 .ensures src)))',
-     'fold-requires':f'(ready-small {LV}, ready-few (took-ready [] {og} _ {nxt} {two("[]")}))',
+     'fold-requires':f'(ready-small {LV}, ready-few (took-ready blank {og} _ {nxt} {two("blank")}))',
      'loop-less':f'let z = {LEFT} in omega (arith, z .0, z .1)',
-     'loop-again':f'let z = {LEFT} in chain-on (@loop .inv) (λ src o t n x. link-on {v} x {LI} {op} (@bump .ensures) z {two("src")} (@fold .ensures .0) (@fold .ensures .1)) (link-ready [] {v} (@loop .left) _ {LV} {past} (@bump .ensures) {two("[]")} (@fold .ensures .0)) (omega (arith, z .0, z .1)) (@fold .kept .0 ∙ @{g}2 .kept .1 .0)',
+     'loop-again':f'let z = {LEFT} in chain-on (@loop .inv) (λ src o t n x. link-on {v} x {LI} {op} (@bump .ensures) z {two("src")} (@fold .ensures .0) (@fold .ensures .1)) (link-ready blank {v} (@loop .left) _ {LV} {past} (@bump .ensures) {two("blank")} (@fold .ensures .0)) (omega (arith, z .0, z .1)) (@fold .kept .0 ∙ @{g}2 .kept .1 .0)',
     }
 level('logic-or','logic-and',('OrOr',0)); level('logic-and','equality',('AndAnd',1)); level('equality','comparison',None); level('comparison','shift',None)
 level('shift','additive',('Shr',13)); level('additive','multiplicative',None); level('multiplicative','unary',None)
@@ -70,7 +70,7 @@ ans['unary']={
  'bump-requires':f'ready-small {RD}',
  'enter-requires':f'omega (arith, @bump .ensures, {PAST})',
  'unary-requires':f'let z = {LEFT} in (omega (arith, z .0, z .1, @pre .0), {NXT})',
- 'prefix-requires':f'let k = {IN("[]")} in let y = took-onward [] pr.unary _ ({NXT} .inside) k in (took-ready [] pr.unary _ {NXT} k, omega (arith, y .0, @bump .ensures))',
+ 'prefix-requires':f'let k = {IN("blank")} in let y = took-onward blank pr.unary _ ({NXT} .inside) k in (took-ready blank pr.unary _ {NXT} k, omega (arith, y .0, @bump .ensures))',
  'returns-2':f'λ src. failed (unary-deep src {WS} {AT} {A} {INS} {W} (@bump .ensures) {PAST} (spent-of (@e .given .1) (@enter .ensures)))',
  'same-length-2':'@unary .kept .1 .0',
  'returns-3':f'λ src. failed (unary-bad src {WS} {AT} {A} {INS} {W} (@bump .ensures) {LEFT} (failed-of (@e2 .given .1) (@unary .ensures src)))',
@@ -85,13 +85,13 @@ LONG='@loop .inv .long ∙ @primary .kept .1 .0'
 DR=f'(start-past {LV} {SD} refl)'
 CR=f'(start-past {LV} {SC} (@bump .ensures))'
 ALL=lambda s:f'(all-of (@args2 .given .1) (@call-args .ensures {s}))'
-AR=f'(all-ready [] pr.args _ {CR} {ALL("[]")})'
+AR=f'(all-ready blank pr.args _ {CR} {ALL("blank")})'
 inv['postfix']=('Chain pr.suffixes tokens left₀ depth₀ tree₀ left depth tree','depth')
 ans['postfix']={
  'primary-requires':f'({FALL}, {RD})',
  'same-length':'@primary .kept .1 .0',
  'returns':f'λ src. failed-by (@enum-told .given .1) (postfix-bad src {WS} {AT} {A} {INS} (failed-of (@enum-told .given .1) (@primary .ensures src)))',
- 'loop-holds':f'chain-in (took-ready [] pr.primary {A} {RD} (took-of (@first .given .1) (@primary .ensures [])))',
+ 'loop-holds':f'chain-in (took-ready blank pr.primary {A} {RD} (took-of (@first .given .1) (@primary .ensures blank)))',
  'peek-requires':LI,'enter-requires':LI,'enter-requires-2':LI,
  'same-length-2':LONG,'same-length-4':LONG,'same-length-7':LONG,
  'returns-2':f'λ src. let z = spent-of (@e .given .1) (@enter .ensures) in failed (suffix-deep {START} {LI} {SD} (z .0) (z .1))',
@@ -105,7 +105,7 @@ ans['postfix']={
  'call-args-requires':f'let z = {LEFT2} in (omega (arith, z .0, z .1, @loop .inv .less, @pre .0), {CR})',
  'same-length-5':f'@call-args .kept .1 .0 ∙ {LONG}',
  'returns-5':f'λ src. failed (args-bad {START} {LI} {KC} {LEFT2} (@bump .ensures) (all-failed-of (@e4 .given .1) (@call-args .ensures src)))',
- 'call-requires':f'let y = all-onward [] pr.args _ ({CR} .inside) {ALL("[]")} in let x = all-few {ALL("[]")} in ({AR}, omega (arith, y .0, @bump .ensures), omega arith)',
+ 'call-requires':f'let y = all-onward blank pr.args _ ({CR} .inside) {ALL("blank")} in let x = all-few {ALL("blank")} in ({AR}, omega (arith, y .0, @bump .ensures), omega arith)',
  'same-length-6':f'@call .kept .1 .0 ∙ @call-args .kept .1 .0 ∙ {LONG}',
  'returns-6':f'λ src. failed (call-bad {START} {LI} {KC} {LEFT2} (@bump .ensures) {ALL("src")} {AR} (@e5 .given .1) (@call .ensures))',
  'loop-less-2':f'let z = {LEFT2} in omega (arith, z .0, z .1)',
@@ -123,7 +123,7 @@ ans['call-args']={
  'peek-requires':'@pre .1 .inside',
  'returns':f'λ src. took-all (args-none src {WS} {AT} {A} {INS} (sym (@peek .ensures) ∙ @if1 .taken) refl refl)',
  'expr-requires':f'({FALL}, {RD})',
- 'loop-holds':f'let y = took-more {FIRST("[]")} in rolling-in (took-ready [] pr.expr {A} {RD} {FIRST("[]")}) (omega arith)',
+ 'loop-holds':f'let y = took-more {FIRST("blank")} in rolling-in (took-ready blank pr.expr {A} {RD} {FIRST("blank")}) (omega arith)',
  'peek-requires-2':LI,
  'same-length':'@loop .inv .long ∙ @expr .kept .1 .0',
  'returns-2':f'λ src. let g = {AS} in took-all (rolled g (comma-stop g arguments {LI} (λ z. @if2 .taken (@peek2 .ensures ∙ z))) {LI})',
@@ -132,8 +132,8 @@ ans['call-args']={
  'same-length-2':'@expr2 .kept .1 .0 ∙ @loop .inv .long ∙ @expr .kept .1 .0',
  'returns-3':f'λ src. failed-all (comma-bad {AS} arguments {LI} {KM} (@bump .ensures) (failed-of (@e2 .given .1) (@expr2 .ensures src)))',
  'add-count':f'omega (arith, @loop .inv .few, ready-few {LV}, {LI}, @loop .inv .ready .fits, {CL} .few)',
- 'loop-less':f'let y = took-onward [] pr.expr {A} ({CN} .inside) {ARG("[]")} in omega (arith, y .0, @bump .ensures, {LI})',
- 'loop-again':f'rolling-on (@loop .inv) (λ src o t n x g. comma-on g arguments {LI} {KM} (@bump .ensures) {ARG("src")} refl) (took-ready [] pr.expr {A} {CN} {ARG("[]")}) refl (took-more {ARG("[]")}) (@expr2 .kept .1 .0)',
+ 'loop-less':f'let y = took-onward blank pr.expr {A} ({CN} .inside) {ARG("blank")} in omega (arith, y .0, @bump .ensures, {LI})',
+ 'loop-again':f'rolling-on (@loop .inv) (λ src o t n x g. comma-on g arguments {LI} {KM} (@bump .ensures) {ARG("src")} refl) (took-ready blank pr.expr {A} {CN} {ARG("blank")}) refl (took-more {ARG("blank")}) (@expr2 .kept .1 .0)',
  'same-length-3':'@expr .kept .1 .0',
  'returns-4':f'λ src. failed-all (args-first-bad src {WS} {AT} {A} {INS} {NP} (failed-of (@e .given .1) (@expr .ensures src)))',
 }
@@ -151,7 +151,7 @@ def wrapped(c,i,b,ex,inside,expr,inner,law,e1,e2,wrap):
      bump=f'ready-small {RD}',
      expect=f'(omega (arith, @{b} .ensures, {PP(c,i)}), {CL} .few)',
      expr=f'({FALL}, {rin})',
-     wrap=f'let k = {tk("[]")} in let y = took-onward [] pr.expr {A} ({rin} .inside) k in (took-ready [] pr.expr {A} {rin} k, omega (arith, y .0, @{b} .ensures, {n} .1))',
+     wrap=f'let k = {tk("blank")} in let y = took-onward blank pr.expr {A} ({rin} .inside) k in (took-ready blank pr.expr {A} {rin} k, omega (arith, y .0, @{b} .ensures, {n} .1))',
      unopened=f'λ src. failed (wrap-unopened {pre} (lacks-of (@{e1} .given .1) (@{ex} .ensures)))',
      bad=f'λ src. failed (wrap-bad {pre} {n} (failed-of (@{e2} .given .1) (@{expr} .ensures src)))',
      met=f'λ src. let k = {tk("src")} in wrap-met {pre} {n} k (took-ready src pr.expr {A} {rin} k) (@{wrap} .ensures)')
@@ -166,7 +166,7 @@ ans['primary']={
  'returns':f'λ src. took (leaf-took src {WS} {AT} {A} {INS} {CL} {LIT} (@leaf .ensures .0) (@leaf .ensures .1))',
  'bump-requires':f'ready-small {RD}',
  'expr-requires':f'({FALL}, {NX("LParen",1,"bump")})',
- 'parens-requires':f'took-ready [] pr.expr {A} {NX("LParen",1,"bump")} {PIN("[]")}',
+ 'parens-requires':f'took-ready blank pr.expr {A} {NX("LParen",1,"bump")} {PIN("blank")}',
  'bump-requires-2':c1['bump'],'expect-requires':c1['expect'],'expr-requires-2':c1['expr'],'wrap-requires':c1['wrap'],
  'bump-requires-3':c2['bump'],'expect-requires-2':c2['expect'],'expr-requires-3':c2['expr'],'wrap-requires-2':c2['wrap'],
  'err-requires':'@pre .1 .inside',
@@ -185,7 +185,7 @@ uses=f'''-- The ring's one proof: each reader answers what the grammar's reader 
 use borrow.Author.Needs.{{needs}}
 use native.Mathlib.Omega.{{arith}}
 use mathlib.Core.Path.{{refl, sym, _∙_}}
-use mathlib.Core.List.{{[]}}
+use Rattle.quanta_grammar.specs.Refine.{{blank}}
 use Prim.Native.Nat.{{_+_, _-_, _*_}}
 use Rattle.quanta_token.specs.TokenKind.{{code, Dot, LParen, RParen, Comma, Checked, Wrapping, OrOr, AndAnd, Shr}}
 use Rattle.quanta_grammar.specs.NodeKind.{{unary-node, binary-node}}

@@ -30,6 +30,6 @@ printf '%-28s %6s %18s %18s\n' 'none: no call' - "$(peak "$work/quanta" none)" "
 while read -r name answer _; do
     "$work/quanta" "$name" source >"$work/source.quanta"
     original=-
-    [[ $name == table* ]] || original=$(peak host/target/release/oracle "$work/source.quanta")
+    [[ $name == table* || $name == *two-closers || $name == *edition-2 ]] || original=$(peak host/target/release/oracle "$work/source.quanta")
     printf '%-28s %6s %18s %18s %9s\n' "$name" "$answer" "$(both quanta "$name")" "$(both quanta_terminal "$name")" "$original"
 done <"$work/quanta.alone"

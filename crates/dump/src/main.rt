@@ -1,7 +1,9 @@
-// Reads a program of at most 1,024 bytes from standard input, with no word barred, and prints the answer.
+// Reads a program of at most 1,024 bytes from standard input, in edition 1 and with no word barred, and prints the answer.
 use quanta::export::quanta_parse;
 
 const LONGEST: usize = 1024;
+
+const EDITION: u32 = 1;
 
 fn main() {
     let mut source = [0u8; 1025];
@@ -10,7 +12,7 @@ fn main() {
     let mut tree = [0u32; 6150];
     let n = io::read_full(0, &mut source);
     if n <= LONGEST {
-        let answer = quanta_parse(&source[..n], &words, &mut tokens, &mut tree);
+        let answer = quanta_parse(EDITION, &source[..n], &words, &mut tokens, &mut tree);
         quanta_show::show(answer, &tree);
     } else {
         quanta_show::refusal(2, 1024, 1024, 0, 0, 0);

@@ -1,17 +1,19 @@
 -- Reading and recording in one, step by step: what a production leaves on top of x, part by part. No derivation is named.
 -- Assumes nothing.
-use mathlib.Core.Path.{_≡_, refl, ap, sym, _∙_}
+use mathlib.Core.Path.{_≡_, refl, ap, sym, subst, _∙_}
 use mathlib.Core.Bool.{Bool, true, false, cond, not, _&&_, _||_}
 use mathlib.Core.List.{List, [], _∷_, _++_}
 use Prim.Native.Nat.{ℕ, _-_, _≤_, _<_}
 use native.Mathlib.Omega.{arith}
-use lib.Dec.{T}
-use Rattle.grammar.specs.Grammar.{Tok, head, next, Item, Items, one, sub, has, Grammar, Tree, Forest, end, leaf, down, yield, yields, Tolls, fare}
+use lib.Dec.{T, eqb→eq}
+use Rattle.grammar.specs.Grammar.{Tok, head, next, Item, Items, one, sub, has, Grammar, Tree, node, Forest, end, leaf, down, yield, yields, Tolls, fare}
 use Rattle.grammar.specs.Names.{Names}
 use Rattle.grammar.specs.Records.{Acc, Way, pass, fold, Reach, Step, make, plus, start, Mark, Outs, fresh, leave, beside, bring, finish, firstMark, rest, walk, walks}
-use Rattle.grammar.specs.Reader.{Res, got, bad, Refusal, use′, refuse, Plan, Condition, terms, pick, miss, refusal, spot, putLeaf, putDown, putNode, onTok, onSuit, onTree, parts, read}
+use Rattle.grammar.specs.Reader.{Res, got, bad, Refusal, use′, refuse, Plan, Condition, terms, pick, miss, refusal, spot, putLeaf, putDown, putNode, onTok, onHead, cut, onSuit, onTree, parts, read}
 use Rattle.grammar.specs.Fused.{Outcome, left, refused, walked, reads}
-use Rattle.grammar.proofs.Table.{folds, both, or-cases, tokened, everyRule, atRule}
+use Rattle.grammar.proofs.Table.{folds, both, or-cases, yes-not, tokened, everyRule, atRule}
+use Rattle.grammar.proofs.Sets.{first}
+use Rattle.grammar.proofs.Halves.{Begun, begun-append, spells-head}
 use Rattle.grammar.proofs.Sound.{Fines, parts-fine, sound}
 use Rattle.grammar.proofs.Fix.{ranked}
 use Rattle.grammar.proofs.Steps.{takes-it, too-deep, refuses-it}
@@ -53,11 +55,41 @@ abbrev starts : List Mark → Bool
 starts [] = false
 starts (m ∷ ms) = starting (m .steps) || starts ms
 
-abbrev fusible : {G : Grammar} → Outs G → Condition G → (s : G .Symbol) → G .Rule s → Bool
-fusible {G} O K s p = calm (K .minds) (O .marks s p) (G .parts s p) && (not (starts (O .marks s p)) || tokened (G .parts s p))
+-- the parts begin with no half; U: nor does the symbol
+abbrev mild : {S : Type 0} → ℕ → (S → Bool) → List (Item S) → Bool
+mild h U [] = true
+mild h U (one c ∷ is) = not (has c h)
+mild h U (sub s ∷ is) = U s && mild h U is
 
-abbrev pub fuses : (G : Grammar) → Names G → Outs G → Condition G → Bool
-fuses G N O K = everyRule N (fusible O K)
+abbrev soft : {G : Grammar} → Names G → G .Symbol → Bool
+soft {G} N s = not (has (first N s) (G .half))
+
+abbrev softly : {G : Grammar} → Names G → (s : G .Symbol) → G .Rule s → Bool
+softly {G} N s p = not (soft N s) || mild (G .half) (soft N) (G .parts s p)
+
+abbrev fusible : {G : Grammar} → Names G → Outs G → Condition G → (s : G .Symbol) → G .Rule s → Bool
+fusible {G} N O K s p = calm (K .minds) (O .marks s p) (G .parts s p) && (not (starts (O .marks s p)) || (tokened (G .parts s p) && mild (G .half) (soft N) (G .parts s p)))
+
+unfoldable pub fuses : (G : Grammar) → Names G → Outs G → Condition G → Bool
+fuses G N O K = everyRule N (fusible N O K) && everyRule N (softly N)
+
+module _ {G : Grammar} (N : Names G) (ok : T (everyRule N (softly N))) where
+  mutual
+    unfolding yield
+
+    soft-begun : {s : G .Symbol} (d : Tree G s) → T (soft N s) → Begun (G .half) (yield d)
+    soft-begun (node {s = s} p f) h =
+        mild-begun f
+        (or-cases (not (soft N s)) (mild (G .half) (soft N) (G .parts s p)) (atRule N (softly N) ok s p)
+        (λ n. absurd (yes-not (soft N s) n h)) (λ x. x))
+
+    mild-begun : {is : Items G} (f : Forest G is) → T (mild (G .half) (soft N) is) → Begun (G .half) (yields f)
+    mild-begun end h = tt
+    mild-begun (leaf {c = c} t k f) h =
+        λ e. yes-not (has c (G .half)) h (subst (λ (i : ℕ). T (has c i)) (eqb→eq (t .kind) (G .half) e) k)
+    mild-begun (down {s = s} {is = is} d f) h =
+        let l = both (soft N s) (mild (G .half) (soft N) is) h in
+        begun-append (G .half) (yield d) (yields f) (soft-begun d (l .0)) (mild-begun f (l .1))
 
 -- where no span of the first token is taken, the first token does not matter
 neither : (a b : Bool) → T (not (a || b)) → T (not a) × T (not b)
@@ -95,6 +127,11 @@ tokened-head end r t = absurd t
 tokened-head (leaf x h f) r t = refl
 tokened-head (down d f) r t = head-append (yield d) (yields f) r (tokened-head f r t)
 
+-- a token of these kinds at the front, and on with it and what is behind it; or it is missing
+abbrev pub onCut : {G : Grammar} → Plan G → List ℕ → List Tok → (Tok → List Tok → Outcome) → Outcome
+onCut P c [] k = refused (miss P c [])
+onCut P c (t ∷ ts) k = cond (has c (t .kind)) (k t ts) (refused (miss P c (t ∷ ts)))
+
 module _ (G : Grammar) (W : Tolls G) (K : Condition G) (P : Plan G) (O : Outs G) where
   abbrev phrase : G .Symbol → ℕ → List Tok → Acc → Outcome
   phrase = reads G W (terms O K) P O
@@ -107,8 +144,7 @@ module _ (G : Grammar) (W : Tolls G) (K : Condition G) (P : Plan G) (O : Outs G)
   -- the parts of a production whose first token is t₀, one after the other
   abbrev pub go : Tok → List Mark → Items G → ℕ → List Tok → Acc → Outcome
   go t₀ ms [] a ts x = left x ts
-  go t₀ ms (one c ∷ is) a [] x = refused (miss P c [])
-  go t₀ ms (one c ∷ is) a (t ∷ ts) x = cond (has c (t .kind)) (go t₀ (rest ms) is a ts (finish O t₀ (firstMark ms .steps) (leave O (firstMark ms .token) (firstMark ms .reach) t x))) (refused (miss P c (t ∷ ts)))
+  go t₀ ms (one c ∷ is) a ts x = onCut P c (cut G c ts) (λ t r. go t₀ (rest ms) is a r (finish O t₀ (firstMark ms .steps) (leave O (firstMark ms .token) (firstMark ms .reach) t x)))
   go t₀ ms (sub s ∷ is) a ts x = by (firstMark ms .phrase) (firstMark ms .reach) s a ts x (λ y r. go t₀ (rest ms) is a r (finish O t₀ (firstMark ms .steps) y))
 
   abbrev walkedAll : {is : Items G} → Tok → List Mark → Res (Forest G is) → Acc → Outcome
@@ -126,6 +162,14 @@ module _ (G : Grammar) (W : Tolls G) (K : Condition G) (P : Plan G) (O : Outs G)
       → walkedAll t₀ ms (onTok P {c = c} t ts b g k) x ≡ cond b o (refused (miss P c (t ∷ ts)))
   tok-all c is t₀ ms t ts x k o true g ih = leaf-all c t₀ ms t (g tt) (k ts) x ∙ ih
   tok-all c is t₀ ms t ts x k o false g ih = refl
+
+  head-all : (c : List ℕ) (is : Items G) (t₀ : Tok) (ms : List Mark) (ts : List Tok) (x : Acc)
+      → (k : List Tok → Res (Forest G is)) (o : Tok → List Tok → Outcome)
+      → ((t : Tok) (r : List Tok) → walkedAll t₀ (rest ms) (k r)
+      (finish O t₀ (firstMark ms .steps) (leave O (firstMark ms .token) (firstMark ms .reach) t x)) ≡ o t r)
+      → walkedAll t₀ ms (onHead P {c = c} ts k) x ≡ onCut P c ts o
+  head-all c is t₀ ms [] x k o ih = refl
+  head-all c is t₀ ms (t ∷ ts) x k o ih = tok-all c is t₀ ms t ts x k (o t ts) (has c (t .kind)) (λ y. y) (ih t ts)
 
   down-all : {s : G .Symbol} {is : Items G} (t₀ : Tok) (ms : List Mark) (d : Tree G s) (q : Res (Forest G is)) (x : Acc)
       → walkedAll t₀ ms (putDown d q) x ≡ walkedAll t₀ (rest ms) q (finish O t₀ (firstMark ms .steps) (bring (firstMark ms .phrase) (firstMark ms .reach) (λ y. walk O d y) x))
@@ -167,24 +211,30 @@ module _ (G : Grammar) (W : Tolls G) (K : Condition G) (P : Plan G) (O : Outs G)
     fuse : (is : Items G) (t₀ : Tok) (ms : List Mark) (a : ℕ) (ts : List Tok) (x : Acc) → T (calm (K .minds) ms is) → walkedAll t₀ ms (parts (terms O K) P (read G W (terms O K) P) is a ts) x ≡ go t₀ ms is a ts x
     unfolding walk
     fuse [] t₀ ms a ts x h = refl
-    fuse (one c ∷ is) t₀ ms a [] x h = refl
-    fuse (one c ∷ is) t₀ ms a (t ∷ ts) x h = tok-all c is t₀ ms t ts x (parts (terms O K) P (read G W (terms O K) P) is a) _ (has c (t .kind)) (λ y. y) (fuse is t₀ (rest ms) a ts _ h)
+    fuse (one c ∷ is) t₀ ms a ts x h = head-all c is t₀ ms (cut G c ts) x (parts (terms O K) P (read G W (terms O K) P) is a) _ (λ t r. fuse is t₀ (rest ms) a r _ h)
     fuse (sub s ∷ is) t₀ ms a ts x h =
         let z = both (not (folds (firstMark ms .phrase)) || not (K .minds s)) (calm (K .minds) (rest ms) is) h in
         sub-all s is t₀ ms a ts x (read G W (terms O K) P s a ts) refl (parts (terms O K) P (read G W (terms O K) P) is a) _ (λ r y. fuse is t₀ (rest ms) a r (finish O t₀ (firstMark ms .steps) y) (z .1)) (z .0)
 
-    node-all : (s : G .Symbol) (p : G .Rule s) (a : ℕ) (ts : List Tok) (q : Res (Forest G (G .parts s p))) (x : Acc) → T (not (starts (O .marks s p)) || tokened (G .parts s p)) → Fines G W (terms O K) P a ts q
+    node-all : (N : Names G) → T (everyRule N (softly N)) → (s : G .Symbol) (p : G .Rule s) (a : ℕ) (ts : List Tok) (q : Res (Forest G (G .parts s p))) (x : Acc) → T (not (starts (O .marks s p)) || (tokened (G .parts s p) && mild (G .half) (soft N) (G .parts s p))) → Fines G W (terms O K) P a ts q
         → walked O (putNode {s = s} p q) x ≡ walkedAll (head ts) (O .marks s p) q x
     unfolding walk
-    node-all s p a ts (got f r) x h l =
-        ap (λ z. left z r) (or-cases (not (starts (O .marks s p))) (tokened (G .parts s p)) h
+    node-all N soften s p a ts (got f r) x h l =
+        ap (λ z. left z r)
+        (or-cases (not (starts (O .marks s p))) (tokened (G .parts s p) && mild (G .half) (soft N) (G .parts s p)) h
         (λ n. walks-first O (head (yields f)) (head ts) (O .marks s p) f x n)
-        (λ n. ap (λ t. walks O t (O .marks s p) f x) (sym (tokened-head f r n) ∙ ap head (l .0))))
-    node-all s p a ts (bad e) x h l = refl
+        (λ n. let m = both (tokened (G .parts s p)) (mild (G .half) (soft N) (G .parts s p)) n in
+        ap (λ t. walks O t (O .marks s p) f x)
+        (sym (tokened-head f r (m .0)) ∙ sym (spells-head (l .0) (mild-begun N soften f (m .1))))))
+    node-all N soften s p a ts (bad e) x h l = refl
 
     module _ (N : Names G) (low : T (ranked G N)) (ok : T (fuses G N O K)) where
-      fusible-at : (s : G .Symbol) (p : G .Rule s) → T (calm (K .minds) (O .marks s p) (G .parts s p)) × T (not (starts (O .marks s p)) || tokened (G .parts s p))
-      fusible-at s p = both (calm (K .minds) (O .marks s p) (G .parts s p)) (not (starts (O .marks s p)) || tokened (G .parts s p)) (atRule N (fusible O K) ok s p)
+      oks : T (everyRule N (fusible N O K)) × T (everyRule N (softly N))
+      unfolding fuses
+      oks = both (everyRule N (fusible N O K)) (everyRule N (softly N)) ok
+
+      fusible-at : (s : G .Symbol) (p : G .Rule s) → T (calm (K .minds) (O .marks s p) (G .parts s p)) × T (not (starts (O .marks s p)) || (tokened (G .parts s p) && mild (G .half) (soft N) (G .parts s p)))
+      fusible-at s p = both (calm (K .minds) (O .marks s p) (G .parts s p)) (not (starts (O .marks s p)) || (tokened (G .parts s p) && mild (G .half) (soft N) (G .parts s p))) (atRule N (fusible N O K) (oks .0) s p)
 
       -- the three ways that a step can go
       pub takes : (s : G .Symbol) (p : G .Rule s) (a : ℕ) (ts : List Tok) (x : Acc) → pick (P .guides s) (next ts) ≡ use′ p → fare (W s p) ≤ a → phrase s a ts x ≡ go (head ts) (O .marks s p) (G .parts s p) (a - fare (W s p)) ts x
@@ -193,7 +243,7 @@ module _ (G : Grammar) (W : Tolls G) (K : Condition G) (P : Plan G) (O : Outs G)
           let l = fusible-at s p in
           let b = a - fare (W s p) in
           ap (λ (q : Res (Tree G s)). walked O q x) (takes-it G W (terms O K) P N low s p a ts c h)
-          ∙ node-all s p b ts (parts (terms O K) P (read G W (terms O K) P) (G .parts s p) b ts) x (l .1) (parts-fine G W (terms O K) P (read G W (terms O K) P) (sound G W (terms O K) P) (G .parts s p) b ts)
+          ∙ node-all N (oks .1) s p b ts (parts (terms O K) P (read G W (terms O K) P) (G .parts s p) b ts) x (l .1) (parts-fine G W (terms O K) P (read G W (terms O K) P) (sound G W (terms O K) P) (G .parts s p) b ts)
           ∙ fuse (G .parts s p) (head ts) (O .marks s p) b ts x (l .0)
 
       pub spent : (s : G .Symbol) (p : G .Rule s) (a : ℕ) (ts : List Tok) (x : Acc) → pick (P .guides s) (next ts) ≡ use′ p → a < fare (W s p) → phrase s a ts x ≡ refused (refusal (P .limit) (spot (W s p) ts))

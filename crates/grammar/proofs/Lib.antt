@@ -1,7 +1,9 @@
 pub mod Table
 pub mod Sets
+pub mod Halves
 pub mod Sound
 pub mod Fix
+pub mod Before
 pub mod Steps
 pub mod Complete
 pub mod Unique
@@ -21,3 +23,4 @@ pub mod Loops
 pub mod Progress
 pub mod Tally
 pub mod OwnTokens
+pub mod Relabel

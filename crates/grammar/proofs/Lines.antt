@@ -1,18 +1,20 @@
 -- A production under way: what is left of its parts, of the tokens, and what has been left in the tree so far. One law for each kind of part.
 -- Assumes nothing.
 use mathlib.Core.Path.{_≡_, refl, ap, sym, subst, _∙_}
-use mathlib.Core.Bool.{Bool, true, false, cond, not}
+use mathlib.Core.Bool.{Bool, true, false, cond, not, _&&_}
 use mathlib.Core.List.{List, [], _∷_}
 use Prim.Native.Nat.{ℕ, _-_, _≤_, zero-le}
 use native.Mathlib.Nat.{sub-zero}
-use lib.Dec.{T}
+use lib.Dec.{T, eqb}
 use Rattle.grammar.specs.Grammar.{Tok, head, next, Items, one, sub, has, Grammar, Tree, Toll, free, Tolls, fare}
+use Rattle.grammar.specs.Grammar.{front, back}
 use Rattle.grammar.specs.Names.{Names}
 use Rattle.grammar.specs.Records.{Acc, Leaf, Way, pass, fold, Reach, Step, Mark, Outs, fresh, leave, beside, finish, walk}
-use Rattle.grammar.specs.Reader.{Refusal, use′, Plan, Condition, terms, pick, miss}
+use Rattle.grammar.specs.Reader.{Refusal, use′, Plan, Condition, terms, pick, miss, cut, cutIf}
 use Rattle.grammar.specs.Fused.{Outcome, left, refused, reads}
 use Rattle.grammar.proofs.Fix.{ranked}
-use Rattle.grammar.proofs.Fuse.{onward, onward-left, fits, onFit, fuses, go, takes}
+use Rattle.grammar.proofs.Table.{and-intro}
+use Rattle.grammar.proofs.Fuse.{onward, onward-left, fits, onFit, fuses, onCut, go, takes}
 
 abbrev pub mark : Leaf → Way → Reach → List Step → Mark
 mark x w r ss = record { token = x; phrase = w; reach = r; steps = ss }
@@ -36,6 +38,24 @@ fit-no false e o h = refl
 pub unminded : (b c : Bool) → T (not b) → T (elim b as (λ z. Bool) [ true ↦ c | false ↦ true ])
 unminded true c h = absurd h
 unminded false c h = tt
+
+-- a token that is not cut, and one that is
+cut-no : (h : ℕ) (b : Bool) (t : Tok) (ts : List Tok) → T (not b) → cutIf h b t ts ≡ t ∷ ts
+cut-no h true t ts n = absurd n
+cut-no h false t ts n = refl
+
+cut-yes : (h : ℕ) (b : Bool) (t : Tok) (ts : List Tok) → T b → cutIf h b t ts ≡ front h t ∷ (back h t ∷ ts)
+cut-yes h true t ts n = refl
+cut-yes h false t ts n = absurd n
+
+-- no half is wanted, or no pair stands here
+abbrev pub stays : Grammar → List ℕ → Tok → Bool
+stays G c t = not (has c (G .half) && eqb (t .kind) (G .pair))
+
+pub stay : (G : Grammar) (P : Plan G) (c : List ℕ) (t : Tok) (ts : List Tok) (k : Tok → List Tok → Outcome)
+    → T (stays G c t) → onCut P c (cut G c (t ∷ ts)) k ≡ cond (has c (t .kind)) (k t ts) (refused (miss P c (t ∷ ts)))
+stay G P c t ts k n =
+    ap (λ (l : List Tok). onCut P c l k) (cut-no (G .half) (has c (G .half) && eqb (t .kind) (G .pair)) t ts n)
 
 module _ (G : Grammar) (W : Tolls G) (K : Condition G) (P : Plan G) (O : Outs G) where
   abbrev phrase : G .Symbol → ℕ → List Tok → Acc → Outcome
@@ -61,12 +81,26 @@ module _ (G : Grammar) (W : Tolls G) (K : Condition G) (P : Plan G) (O : Outs G)
 
   module _ {o : Outcome} {t₀ : Tok} {ms : List Mark} {is : Items G} {a : ℕ} {x : Acc} where
     -- a token that is wanted, and one that is not
-    pub eat : {m : Mark} {c : List ℕ} {t : Tok} {ts : List Tok} → Doing o t₀ (m ∷ ms) (one c ∷ is) a (t ∷ ts) x → T (has c (t .kind))
+    pub eat : {m : Mark} {c : List ℕ} {t : Tok} {ts : List Tok} → Doing o t₀ (m ∷ ms) (one c ∷ is) a (t ∷ ts) x → T (stays G c t) → T (has c (t .kind))
         → Doing o t₀ ms is a ts (finish O t₀ (m .steps) (leave O (m .token) (m .reach) t x))
-    eat {c = c} {t} d h = record { so = d .so ∙ cond-yes (has c (t .kind)) _ _ h }
+    eat {c = c} {t} {ts} d n h = record { so = d .so ∙ stay G P c t ts _ n ∙ cond-yes (has c (t .kind)) _ _ h }
 
-    pub lack : {c : List ℕ} {t : Tok} {ts : List Tok} → Doing o t₀ ms (one c ∷ is) a (t ∷ ts) x → (T (has c (t .kind)) → ⊥) → o ≡ refused (miss P c (t ∷ ts))
-    lack {c} {t} d h = d .so ∙ cond-no (has c (t .kind)) _ _ h
+    pub lack : {c : List ℕ} {t : Tok} {ts : List Tok} → Doing o t₀ ms (one c ∷ is) a (t ∷ ts) x → T (stays G c t) → (T (has c (t .kind)) → ⊥) → o ≡ refused (miss P c (t ∷ ts))
+    lack {c} {t} {ts} d n h = d .so ∙ stay G P c t ts _ n ∙ cond-no (has c (t .kind)) _ _ h
+
+    -- the first half of a pair, where a half is wanted
+    pub eat-half : {m : Mark} {c : List ℕ} {t : Tok} {ts : List Tok} → Doing o t₀ (m ∷ ms) (one c ∷ is) a (t ∷ ts) x → T (has c (G .half)) → T (eqb (t .kind) (G .pair))
+        → Doing o t₀ ms is a (back (G .half) t ∷ ts)
+        (finish O t₀ (m .steps) (leave O (m .token) (m .reach) (front (G .half) t) x))
+    eat-half {m = m} {c} {t} {ts} d n h = record {
+      so =
+          let on : Tok → List Tok → Outcome = λ t r.
+          go G W K P O t₀ ms is a r (finish O t₀ (m .steps) (leave O (m .token) (m .reach) t x)) in
+          let b = eqb (t .kind) (G .pair) in
+          let y = cut-yes (G .half) (has c (G .half) && b) t ts (and-intro (has c (G .half)) b n h) in
+          d .so ∙ ap (λ (l : List Tok). onCut P c l on) y
+          ∙ cond-yes (has c (G .half)) _ _ n;
+    }
 
     -- a phrase beside what is left, under the condition
     module _ {y : Leaf} {r : Reach} {ss : List Step} {s : G .Symbol} {ts : List Tok} (d : Doing o t₀ (mark y pass r ss ∷ ms) (sub s ∷ is) a ts x) where

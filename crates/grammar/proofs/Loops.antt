@@ -11,13 +11,13 @@ use lib.ListN.{length}
 use Rattle.grammar.specs.Grammar.{Tok, head, next, Items, one, sub, has, Grammar, Tree, Toll, free, Tolls, fare}
 use Rattle.grammar.specs.Names.{Names}
 use Rattle.grammar.specs.Records.{Acc, Leaf, nothing, Way, pass, fold, Reach, apart, Step, Mark, Outs, fresh, leave, beside, finish, walk}
-use Rattle.grammar.specs.Reader.{Refusal, use′, Plan, Guide, Condition, terms, pick, refusal, spot}
+use Rattle.grammar.specs.Reader.{Refusal, use′, Plan, Guide, Condition, terms, pick, cut, refusal, spot}
 use Rattle.grammar.specs.Fused.{Outcome, left, refused, reads}
 use Rattle.grammar.proofs.Table.{yes-not}
 use Rattle.grammar.proofs.Fix.{ranked}
 use Rattle.grammar.proofs.Steps.{choose-yes, choose-no}
-use Rattle.grammar.proofs.Fuse.{onward, onward-left, onward-onward, fits, onFit, fuses, go, takes, spent}
-use Rattle.grammar.proofs.Lines.{mark, cond-yes, fit-yes, unminded}
+use Rattle.grammar.proofs.Fuse.{onward, onward-left, onward-onward, fits, onFit, fuses, onCut, go, takes, spent}
+use Rattle.grammar.proofs.Lines.{mark, cond-yes, fit-yes, unminded, stays, stay}
 
 pub onward-same : (o : Outcome) (f g : Acc → List Tok → Outcome) → ((y : Acc) (r : List Tok) → f y r ≡ g y r) → onward o f ≡ onward o g
 onward-same (left y r) f g h = h y r
@@ -30,6 +30,12 @@ fit-onward false e o k = refl
 cond-onward : (b : Bool) (o o′ : Outcome) (e : Refusal) (k : Acc → List Tok → Outcome) → o′ ≡ onward o k → cond b o′ (refused e) ≡ onward (cond b o (refused e)) k
 cond-onward true o o′ e k h = h
 cond-onward false o o′ e k h = refl
+
+cut-onward : {G : Grammar} (P : Plan G) (c : List ℕ) (ts : List Tok) (f f′ : Tok → List Tok → Outcome)
+    → (k : Acc → List Tok → Outcome) → ((t : Tok) (r : List Tok) → f′ t r ≡ onward (f t r) k)
+    → onCut P c ts f′ ≡ onward (onCut P c ts f) k
+cut-onward P c [] f f′ k h = refl
+cut-onward P c (t ∷ ts) f f′ k h = cond-onward (has c (t .kind)) (f t ts) (f′ t ts) _ k (h t ts)
 
 -- all but the last
 abbrev pub front : {A : Type 0} → List A → List A
@@ -57,23 +63,22 @@ module _ (G : Grammar) (W : Tolls G) (K : Condition G) (P : Plan G) (O : Outs G)
   split t₀ [] ns [] js e a ts x = refl
   split t₀ [] ns (i ∷ is) js e a ts x = absurd (omega arith)
   split t₀ (m ∷ ms) ns [] js e a ts x = absurd (omega arith)
-  split t₀ (m ∷ ms) ns (one c ∷ is) js e a [] x = refl
-  split t₀ (m ∷ ms) ns (one c ∷ is) js e a (t ∷ ts) x = cond-onward (has c (t .kind)) _ _ _ _ (split t₀ ms ns is js (omega arith) a ts _)
+  split t₀ (m ∷ ms) ns (one c ∷ is) js e a ts x = cut-onward P c (cut G c ts) _ _ _ (λ t r. split t₀ ms ns is js (omega arith) a r _)
   split t₀ (m ∷ ms) ns (sub s ∷ is) js e a ts x = split-sub (m .phrase) (m .reach) s t₀ ms ns is js m refl refl a ts x (λ q y. split t₀ ms ns is js (omega arith) a q y)
 
   -- what a turn comes to: its token, and its phrase
-  pub turn-token : (t₀ : Tok) (m : Mark) (ms : List Mark) (c : List ℕ) (is : Items G) (a : ℕ) (t : Tok) (ts : List Tok) (x : Acc) → T (has c (t .kind))
+  pub turn-token : (t₀ : Tok) (m : Mark) (ms : List Mark) (c : List ℕ) (is : Items G) (a : ℕ) (t : Tok) (ts : List Tok) (x : Acc) → T (stays G c t) → T (has c (t .kind))
       → run t₀ (m ∷ ms) (one c ∷ is) a (t ∷ ts) x ≡ run t₀ ms is a ts (finish O t₀ (m .steps) (leave O (m .token) (m .reach) t x))
-  turn-token t₀ m ms c is a t ts x h = cond-yes (has c (t .kind)) _ _ h
+  turn-token t₀ m ms c is a t ts x n h = stay G P c t ts _ n ∙ cond-yes (has c (t .kind)) _ _ h
 
   pub turn-phrase : (t₀ : Tok) (y : Leaf) (r : Reach) (ss : List Step) (s : G .Symbol) (a : ℕ) (ts : List Tok) (x : Acc) → T (not (K .minds s))
       → run t₀ (mark y pass r ss ∷ []) (sub s ∷ []) a ts x ≡ onward (phrase s a ts fresh) (λ z q. left (finish O t₀ ss (beside r x z)) q)
   turn-phrase t₀ y r ss s a ts x h = onward-same (phrase s a ts fresh) _ _ (λ z q. fit-yes (fits K s z (next q)) _ _ (unminded (K .minds s) (K .suits z (next q)) h))
 
   -- .. as behind a comma or an operator: a token, and then a phrase
-  pub turn-both : (t₀ : Tok) (m : Mark) (y : Leaf) (r : Reach) (ss : List Step) (c : List ℕ) (s : G .Symbol) (a : ℕ) (t : Tok) (ts : List Tok) (x : Acc) → T (has c (t .kind)) → T (not (K .minds s))
+  pub turn-both : (t₀ : Tok) (m : Mark) (y : Leaf) (r : Reach) (ss : List Step) (c : List ℕ) (s : G .Symbol) (a : ℕ) (t : Tok) (ts : List Tok) (x : Acc) → T (stays G c t) → T (has c (t .kind)) → T (not (K .minds s))
       → run t₀ (m ∷ mark y pass r ss ∷ []) (one c ∷ sub s ∷ []) a (t ∷ ts) x ≡ onward (phrase s a ts fresh) (λ z q. left (finish O t₀ ss (beside r (finish O t₀ (m .steps) (leave O (m .token) (m .reach) t x)) z)) q)
-  turn-both t₀ m y r ss c s a t ts x h k = turn-token t₀ m (mark y pass r ss ∷ []) c (sub s ∷ []) a t ts x h ∙ turn-phrase t₀ y r ss s a ts _ k
+  turn-both t₀ m y r ss c s a t ts x n h k = turn-token t₀ m (mark y pass r ss ∷ []) c (sub s ∷ []) a t ts x n h ∙ turn-phrase t₀ y r ss s a ts _ k
 
   -- A LOOP: while the next kind tells so, a turn with what the toll w leaves of the allowance; else nothing.
   pub record Loop (l : G .Symbol) (goes : ℕ → Bool) (w : Toll) (turn : ℕ → List Tok → Acc → Outcome) : Type 0 where

@@ -4,10 +4,9 @@ use mathlib.Core.Path.{_≡_, subst}
 use mathlib.Core.Bool.{Bool, true, false, _&&_}
 use mathlib.Core.List.{List, [], _∷_}
 use Prim.Native.Nat.{ℕ, zero, suc, _+_, _-_, _*_}
-use lib.Dec.{T, leb}
-use lib.ListN.{length}
-use Rattle.grammar.specs.Grammar.{Tok, next, Item, Items, one, sub, Grammar, has, Tree, Forest, Toll, Tolls, fare, Terms}
-use Rattle.grammar.specs.Reader.{Res, got, bad, Refusal, Choice, use′, refuse, Plan, choose, pick, Reads, putLeaf, putDown, onTok, onSuit, onTree, parts, paid, act, deep, read}
+use lib.Dec.{T, eqb, leb}
+use Rattle.grammar.specs.Grammar.{Tok, next, Item, Items, one, sub, Grammar, has, Tree, Forest, Toll, Tolls, fare, Terms, front, back}
+use Rattle.grammar.specs.Reader.{Res, got, bad, Refusal, Choice, use′, refuse, Plan, choose, pick, Reads, putLeaf, putDown, onTok, onHead, cutIf, bulk, onSuit, onTree, parts, paid, act, deep, read}
 use Rattle.grammar.specs.Names.{Names}
 use Rattle.grammar.proofs.Table.{both, everySymbol, atSymbol, everyRule, atRule}
 
@@ -44,6 +43,12 @@ module _ (G : Grammar) (W : Tolls G) (C : Terms G) (P : Plan G) (N : Names G) (f
   tok-told c t ts true h k m p = leaf-told c t (h tt) (k ts) p
   tok-told c t ts false h k m p = m
 
+  cut-told : (c : List ℕ) {is : Items G} (x : Tok) (ts : List Tok) (b : Bool) (k : List Tok → Res (Forest G is))
+      → T (f (P .missed c)) → ((r : List Tok) → Told (k r)) → Told (onHead P {c = c} (cutIf (G .half) b x ts) k)
+  cut-told c x ts true k m h =
+      tok-told c (front (G .half) x) (back (G .half) x ∷ ts) (has c (G .half)) (λ y. y) k m (h (back (G .half) x ∷ ts))
+  cut-told c x ts false k m h = tok-told c x ts (has c (x .kind)) (λ y. y) k m (h ts)
+
   down-told : {s : G .Symbol} {is : Items G} (d : Tree G s) (q : Res (Forest G is)) → Told q → Told (putDown d q)
   down-told d (got g r) p = tt
   down-told d (bad e) p = p
@@ -61,7 +66,8 @@ module _ (G : Grammar) (W : Tolls G) (C : Terms G) (P : Plan G) (N : Names G) (f
   parts-told rec h (one c ∷ is) t a [] = both (f (P .missed c)) (missing f (P .missed) is) t .0
   parts-told rec h (one c ∷ is) t a (x ∷ ts) =
       let l = both (f (P .missed c)) (missing f (P .missed) is) t in
-      tok-told c x ts (has c (x .kind)) (λ y. y) (parts C P rec is a) (l .0) (parts-told rec h is (l .1) a ts)
+      cut-told c x ts (has c (G .half) && eqb (x .kind) (G .pair)) (parts C P rec is a) (l .0)
+      (parts-told rec h is (l .1) a)
   parts-told rec h (sub s ∷ is) t a ts = tree-told (rec s a ts) (h s a ts) (parts C P rec is a) (parts-told rec h is t a)
 
   paid-told : (s : G .Symbol) (p : G .Rule s) (w : Toll) (b : Bool) (q : Res (Forest G (G .parts s p))) (ts : List Tok) → T (f (P .limit)) → Told q → Told (paid P {s = s} p w b q ts)
@@ -93,4 +99,4 @@ module _ (G : Grammar) (W : Tolls G) (C : Terms G) (P : Plan G) (N : Names G) (f
 
   pub number : (s : G .Symbol) (a : ℕ) (ts : List Tok) (e : Refusal) → read G W C P s a ts ≡ bad e → T (f (e .number))
   unfolding read
-  number s a ts e q = subst (λ r. Told r) q (deep-told (64 + 64 * length ts) s a ts)
+  number s a ts e q = subst (λ r. Told r) q (deep-told (64 + 64 * bulk (G .pair) ts) s a ts)

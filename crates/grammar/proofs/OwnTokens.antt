@@ -1,17 +1,18 @@
 -- Each record's own token is one of the derivation's, of a kind that a list has for the record's kind.
 -- Assumes nothing.
-use mathlib.Core.Path.{_≡_, refl, _∙_}
+use mathlib.Core.Path.{_≡_, refl, _∙_, subst}
 use mathlib.Core.Bool.{Bool, true, false, not, _&&_, _||_}
 use mathlib.Core.List.{List, [], _∷_, _++_, append-assoc, append-nil}
 use mathlib.Core.Option.{Option, none as nobody, some}
 use Prim.Native.Nat.{ℕ}
-use lib.Dec.{T}
-use Rattle.grammar.specs.Grammar.{Tok, head, Item, Items, one, sub, has, Grammar, Tree, node, Forest, end, leaf, down, yield, yields}
+use lib.Dec.{T, eqb, eqb→eq}
+use Rattle.grammar.specs.Grammar.{Tok, head, Item, Items, one, sub, has, Grammar, Tree, node, Forest, end, leaf, down, yield, yields, Spells}
 use Rattle.grammar.specs.Names.{Names}
-use Rattle.grammar.specs.Records.{Row, none, put, glue, Leaf, nothing, own, word, Way, pass, fold, Reach, Step, make, plus, start, Mark, Outs, leafKind, Acc, fresh, leave, bring, finish, firstMark, rest, walk, walks}
+use Rattle.grammar.specs.Records.{Rec, Row, none, put, glue, Leaf, nothing, own, word, Way, pass, fold, Reach, Step, make, plus, start, Mark, Outs, leafKind, Acc, fresh, leave, bring, finish, firstMark, rest, walk, walks}
 use Rattle.grammar.specs.Facts.{kindsFor, Among, here, there, OwnToken, OwnTokens}
 use Rattle.grammar.proofs.Sets.{pure}
-use Rattle.grammar.proofs.Table.{both, every, all-at, implies, everyRule, atRule}
+use Rattle.grammar.proofs.Table.{both, yes-not, every, all-at, implies, everyRule, atRule}
+use Rattle.grammar.proofs.Halves.{spells-among}
 
 -- the kinds of the token that waits for its record, if one does
 abbrev Pending : Type 0
@@ -222,3 +223,38 @@ module _ (M : List (ℕ × List ℕ)) where
 
     pub own-tokens : {s : G .Symbol} (d : Tree G s) → OwnTokens M (yield d) (walk O d fresh .row)
     own-tokens d = walk-tokens d [] fresh tt
+
+-- no record's own token is a half
+abbrev pub unhalved : ℕ → List (ℕ × List ℕ) → Bool
+unhalved h = every (λ x. not (has (x .1) h))
+
+no-half : (h : ℕ) (M : List (ℕ × List ℕ)) → T (unhalved h M) → (k : ℕ) → T (has (kindsFor M k) h) → ⊥
+no-half h [] ok k t = t
+no-half h (x ∷ M) ok k t =
+    let l = both (not (has (x .1) h)) (unhalved h M) ok in
+    by (eqb k (x .0)) (yes-not (has (x .1) h) (l .0)) (no-half h M (l .1) k) t
+  where
+    by : (b : Bool) → (T (has (x .1) h) → ⊥) → (T (has (kindsFor M k) h) → ⊥)
+        → T (has (elim b as (λ z. List ℕ) [ true ↦ x .1 | false ↦ kindsFor M k ]) h) → ⊥
+    by true p q t = p t
+    by false p q t = q t
+
+-- .. so each is one of the tokens that are taken
+module _ (G : Grammar) (M : List (ℕ × List ℕ)) (ok : T (unhalved (G .half) M))
+    {ts us r : List Tok} (s : Spells G ts us r) where
+  whole-token : (x : Rec) (t : Tok) → T (has (kindsFor M (x .kind)) (t .kind)) → T (eqb (t .kind) (G .half)) → ⊥
+  whole-token x t h e =
+      let p = eqb→eq (t .kind) (G .half) e in
+      no-half (G .half) M ok (x .kind) (subst (λ (k : ℕ). T (has (kindsFor M (x .kind)) k)) p h)
+
+  token-taken : (x : Rec) → OwnToken M us x → OwnToken M ts x
+  token-taken x o = record {
+    token = o .token;
+    among = spells-among (whole-token x (o .token) (o .kind)) s (o .among);
+    place = o .place;
+    kind = o .kind;
+  }
+
+  pub taken : (row : Row) → OwnTokens M us row → OwnTokens M ts row
+  taken none o = tt
+  taken (put b x ks) o = (taken b (o .0), token-taken x (o .1), taken ks (o .2))

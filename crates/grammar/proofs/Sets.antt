@@ -76,17 +76,17 @@ module _ {S : Type 0} where
   leads F R (one c ∷ is) = 0
   leads F R (sub s ∷ is) = elim (F s) [ true ↦ suc (R s) | false ↦ max (suc (R s)) (leads F R is) ]
 
-  -- the kinds that may begin the parts
-  abbrev begins : (S → Bool) → (S → List ℕ) → List (Item S) → List ℕ
-  begins F K [] = []
-  begins F K (one c ∷ is) = c
-  begins F K (sub s ∷ is) = elim (F s) [ true ↦ K s | false ↦ K s ++ begins F K is ]
+  -- the kinds that may begin the parts; with a half, the pair q
+  abbrev begins : ℕ → ℕ → (S → Bool) → (S → List ℕ) → List (Item S) → List ℕ
+  begins q h F K [] = []
+  begins q h F K (one c ∷ is) = elim (has c h) [ true ↦ q ∷ c | false ↦ c ]
+  begins q h F K (sub s ∷ is) = elim (F s) [ true ↦ K s | false ↦ K s ++ begins q h F K is ]
 
   -- what may begin behind the symbol numbered n among the parts; whether it may be the last to spell something; whether it is there
-  abbrev behind : (S → ℕ) → (S → Bool) → (S → List ℕ) → ℕ → List (Item S) → List ℕ
-  behind N F K n [] = []
-  behind N F K n (one c ∷ is) = behind N F K n is
-  behind N F K n (sub s ∷ is) = elim (eqb (N s) n) [ true ↦ begins F K is ++ behind N F K n is | false ↦ behind N F K n is ]
+  abbrev behind : ℕ → ℕ → (S → ℕ) → (S → Bool) → (S → List ℕ) → ℕ → List (Item S) → List ℕ
+  behind q h N F K n [] = []
+  behind q h N F K n (one c ∷ is) = behind q h N F K n is
+  behind q h N F K n (sub s ∷ is) = elim (eqb (N s) n) [ true ↦ begins q h F K is ++ behind q h N F K n is | false ↦ behind q h N F K n is ]
 
   abbrev ends : (S → ℕ) → (S → Bool) → ℕ → List (Item S) → Bool
   ends N F n [] = false
@@ -138,7 +138,7 @@ module _ {G : Grammar} (N : Names G) where
 
   beginsIn : ℕ → G .Symbol → List ℕ
   beginsIn zero s = []
-  beginsIn (suc n) s = collect (λ p. begins solid (beginsIn n) (G .parts s p)) (N .rules s)
+  beginsIn (suc n) s = collect (λ p. begins (G .pair) (G .half) solid (beginsIn n) (G .parts s p)) (N .rules s)
 
   -- the kinds that may begin it, where it spells something
   unfoldable pub first : G .Symbol → List ℕ
@@ -147,7 +147,9 @@ module _ {G : Grammar} (N : Names G) where
 
   -- the kinds that may follow it in some production; the symbols that it may end
   around : G .Symbol → List ℕ
-  around q = collect (λ s. collect (λ p. behind no solid first (no q) (G .parts s p)) (N .rules s)) (N .symbols)
+  around q =
+      collect (λ s. collect (λ p. behind (G .pair) (G .half) no solid first (no q) (G .parts s p)) (N .rules s))
+      (N .symbols)
 
   hosts : G .Symbol → List (G .Symbol)
   hosts q = keep (λ s. any (λ p. ends no solid (no q) (G .parts s p)) (N .rules s)) (N .symbols)

@@ -1,15 +1,16 @@
 -- A call reads to the end: of a symbol whose phrases end in a token of kind z, on tokens with one at their end alone, nothing is left.
 -- Assumes nothing.
 use mathlib.Core.Path.{_≡_, refl, ap, sym, _∙_, subst}
-use mathlib.Core.Bool.{Bool, false, not}
+use mathlib.Core.Bool.{Bool, false, not, _&&_}
 use mathlib.Core.List.{List, [], _∷_, _++_, append-assoc}
 use Prim.Native.Nat.{ℕ}
-use lib.Dec.{T, eqb, eqb→eq, eqb-refl}
-use Rattle.grammar.specs.Grammar.{Tok, Item, Items, one, sub, Grammar, Tree, node, Forest, end, leaf, down, Tolls, yield, yields, Terms}
+use lib.Dec.{T, eqb, eqb→eq}
+use Rattle.grammar.specs.Grammar.{Tok, Item, Items, one, sub, Grammar, Tree, node, Forest, end, leaf, down, Tolls, yield, yields, Terms, Spells}
 use Rattle.grammar.specs.Reader.{got, Plan, read}
 use Rattle.grammar.specs.Facts.{shut}
 use Rattle.grammar.specs.Names.{Names}
-use Rattle.grammar.proofs.Table.{both, every, all-at, yes-not, at-entry}
+use Rattle.grammar.proofs.Table.{both, every, all-at, at-entry}
+use Rattle.grammar.proofs.Halves.{spells-shut}
 use Rattle.grammar.proofs.Sound.{Fine, sound}
 
 abbrev pub lastIs : {S : Type 0} → ℕ → List (Item S) → Bool
@@ -18,9 +19,9 @@ lastIs z (one c ∷ []) = every (λ k. eqb k z) c
 lastIs z (sub s ∷ []) = false
 lastIs z (i ∷ (j ∷ is)) = lastIs z (j ∷ is)
 
--- each production of s ends in z
+-- each production of s ends in z, and z is neither a pair nor a half
 abbrev pub closes : (G : Grammar) → Names G → ℕ → G .Symbol → Bool
-closes G N z s = every (λ p. lastIs z (G .parts s p)) (N .rules s)
+closes G N z s = (not (eqb (G .pair) z) && not (eqb (G .half) z)) && every (λ p. lastIs z (G .parts s p)) (N .rules s)
 
 pub record Ended (z : ℕ) (ts : List Tok) : Type 0 where
   pub front : List Tok
@@ -44,23 +45,18 @@ ended z (down d end) t = absurd t
 ended z (down d (leaf y k f)) t = mores (yield d) (ended z (leaf y k f) t)
 ended z (down d (down e f)) t = mores (yield d) (ended z (down e f) t)
 
-shut-tail : (z : ℕ) (x : Tok) (ys : List Tok) (t : Tok) (r : List Tok) → T (shut z (x ∷ (ys ++ (t ∷ r)))) → T (shut z (ys ++ (t ∷ r)))
-shut-tail z x [] t r h = both (not (eqb (x .kind) z)) (shut z (t ∷ r)) h .1
-shut-tail z x (y ∷ ys) t r h = both (not (eqb (x .kind) z)) (shut z (y ∷ (ys ++ (t ∷ r)))) h .1
-
-over : (z : ℕ) (ys : List Tok) (t : Tok) (r : List Tok) → t .kind ≡ z → T (shut z (ys ++ (t ∷ r))) → r ≡ []
-over z [] t [] e h = refl
-over z [] t (u ∷ r) e h = absurd (yes-not (eqb (t .kind) z) (both (not (eqb (t .kind) z)) (shut z (u ∷ r)) h .0) (rw e (eqb-refl z)))
-over z (y ∷ ys) t r e h = over z ys t r e (shut-tail z y ys t r h)
-
 module _ (G : Grammar) (N : Names G) (z : ℕ) (s : G .Symbol) (closed : T (closes G N z s)) where
+  closed-by : T (not (eqb (G .pair) z) && not (eqb (G .half) z)) × T (every (λ p. lastIs z (G .parts s p)) (N .rules s))
+  closed-by =
+      both (not (eqb (G .pair) z) && not (eqb (G .half) z)) (every (λ p. lastIs z (G .parts s p)) (N .rules s)) closed
+
   closing : (d : Tree G s) → Ended z (yield d)
   unfolding yield
-  closing (node p f) = ended z f (at-entry (λ p. lastIs z (G .parts s p)) (N .rule s p .no) (N .rules s) p closed (N .rule s p .there))
+  closing (node p f) = ended z f (at-entry (λ p. lastIs z (G .parts s p)) (N .rule s p .no) (N .rules s) p (closed-by .1) (N .rule s p .there))
 
   pub whole : (W : Tolls G) (C : Terms G) (P : Plan G) (a : ℕ) (ts : List Tok) → T (shut z ts) → (d : Tree G s) (r : List Tok) → read G W C P s a ts ≡ got d r → r ≡ []
   whole W C P a ts h d r e =
       let f : Fine G W C P a ts (got d r) = subst (λ q. Fine G W C P a ts q) e (sound G W C P s a ts) in
       let x = closing d in
-      let y : (x .front ++ (x .last ∷ [])) ++ r ≡ ts = ap (_++ r) (sym (x .split)) ∙ f .0 in
-      over z (x .front) (x .last) r (x .eof) (subst (λ l. T (shut z l)) (sym y ∙ append-assoc (x .front) (x .last ∷ []) r) h)
+      let n = both (not (eqb (G .pair) z)) (not (eqb (G .half) z)) (closed-by .0) in
+      spells-shut z (n .0) (n .1) (x .front) (x .last) (x .eof) (subst (λ us. Spells G ts us r) (x .split) (f .0)) h

@@ -1,8 +1,9 @@
 -- Grammars as named productions, derivations as trees of them, what a derivation spells, its measure, and conditions on it.
 -- Assumes nothing.
+use mathlib.Core.Path.{_≡_}
 use mathlib.Core.Bool.{Bool, false, _||_}
 use mathlib.Core.List.{List, [], _∷_, _++_}
-use Prim.Native.Nat.{ℕ, _+_, max}
+use Prim.Native.Nat.{ℕ, _+_, _-_, max}
 use lib.Dec.{T, eqb}
 
 -- a token: its place in the list, its kind, its span
@@ -32,6 +33,9 @@ pub record Grammar : Type 1 where
   pub Symbol : Type 0
   pub Rule : Symbol → Type 0
   pub parts : (s : Symbol) → Rule s → List (Item Symbol)
+  -- a kind of token that counts as two of the kind `half` where a half is wanted
+  pub pair : ℕ
+  pub half : ℕ
 
 abbrev pub Items : Grammar → Type 0
 Items G = List (Item (G .Symbol))
@@ -39,6 +43,23 @@ Items G = List (Item (G .Symbol))
 abbrev pub has : List ℕ → ℕ → Bool
 has [] k = false
 has (c ∷ cs) k = eqb k c || has cs k
+
+-- the two halves of a token: the last byte, and what is before it
+abbrev pub middle : Tok → ℕ
+middle t = max (t .start) (t .stop - 1)
+
+abbrev pub front : ℕ → Tok → Tok
+front h t = record { place = t .place; kind = h; start = t .start; stop = middle t }
+
+abbrev pub back : ℕ → Tok → Tok
+back h t = record { place = t .place; kind = h; start = middle t; stop = t .stop }
+
+-- the tokens us stand at the front of ts, and r is left behind them: each token whole, or a pair in halves
+pub data Spells (G : Grammar) : List Tok → List Tok → List Tok → Type 0 where
+  done : {r : List Tok} → Spells G r [] r
+  whole : {t : Tok} {ts us r : List Tok} → Spells G ts us r → Spells G (t ∷ ts) (t ∷ us) r
+  halved : {t : Tok} {ts us r : List Tok} → T (eqb (t .kind) (G .pair)) → Spells G (back (G .half) t ∷ ts) us r
+      → Spells G (t ∷ ts) (front (G .half) t ∷ us) r
 
 -- a derivation of a symbol: a production of the symbol, and a derivation of each of its parts
 mutual
@@ -83,9 +104,10 @@ unfoldable mutual
   measures W (leaf t h f) = measures W f
   measures W (down d f) = max (measure W d) (measures W f)
 
--- a condition on productions: which phrase may stand before which kind of token
+-- a condition on productions: which phrase may stand before which kind of token; a pair and a half are alike to it
 pub record Terms (G : Grammar) : Type 0 where
   pub suits : (s : G .Symbol) → Tree G s → ℕ → Bool
+  pub even : (s : G .Symbol) (d : Tree G s) → suits s d (G .pair) ≡ suits s d (G .half)
 
 -- the condition holds in a derivation that stands before the tokens r
 unfoldable mutual

@@ -1,11 +1,11 @@
 -- The reader: a total function from tokens to a derivation and the tokens behind it, or to a refusal.
 -- Assumes nothing.
-use mathlib.Core.Bool.{Bool, true, false}
+use mathlib.Core.Path.{_≡_, ap}
+use mathlib.Core.Bool.{Bool, true, false, _&&_}
 use mathlib.Core.List.{List, [], _∷_}
 use Prim.Native.Nat.{ℕ, zero, suc, _+_, _-_, _*_}
-use lib.Dec.{T, leb}
-use lib.ListN.{length}
-use Rattle.grammar.specs.Grammar.{Tok, head, next, one, sub, Items, Grammar, has, Tree, node, Forest, end, leaf, down, Toll, free, before, behind, Tolls, fare, Terms}
+use lib.Dec.{T, leb, eqb}
+use Rattle.grammar.specs.Grammar.{Tok, head, next, one, sub, Items, Grammar, has, front, back, Tree, node, Forest, end, leaf, down, Toll, free, before, behind, Tolls, fare, Terms}
 use Rattle.grammar.specs.Records.{Acc, fresh, Outs, walk}
 
 -- a refusal: its number, the token or span that it marks, and the kind that was wanted
@@ -41,10 +41,15 @@ pub record Plan (G : Grammar) : Type 0 where
 pub record Condition (G : Grammar) : Type 0 where
   pub minds : G .Symbol → Bool
   pub suits : Acc → ℕ → Bool
+  pub even : (x : Acc) → suits x (G .pair) ≡ suits x (G .half)
   pub refusal : Acc → Refusal
 
 abbrev pub terms : {G : Grammar} → Outs G → Condition G → Terms G
-terms O K = record { suits = λ s d k. elim (K .minds s) [ true ↦ K .suits (walk O d fresh) k | false ↦ true ] }
+terms O K = record {
+  suits = λ s d k. elim (K .minds s) [ true ↦ K .suits (walk O d fresh) k | false ↦ true ];
+  even = λ s d.
+      ap (λ (b : Bool). elim (K .minds s) as (λ z. Bool) [ true ↦ b | false ↦ true ]) (K .even (walk O d fresh));
+}
 
 abbrev pub choose : {R : Type 0} → List (List ℕ × R) → Choice R → ℕ → Choice R
 choose [] o k = o
@@ -65,6 +70,24 @@ miss P cs ts = record { number = P .missed cs; at = head ts; wanted = P .wanted 
 
 abbrev pub refusal : ℕ → List Tok → Refusal
 refusal n ts = record { number = n; at = head ts; wanted = 0 }
+
+-- where a half is wanted and a pair stands, its halves
+abbrev pub cutIf : ℕ → Bool → Tok → List Tok → List Tok
+cutIf h true t ts = front h t ∷ (back h t ∷ ts)
+cutIf h false t ts = t ∷ ts
+
+abbrev pub cut : (G : Grammar) → List ℕ → List Tok → List Tok
+cut G c [] = []
+cut G c (t ∷ ts) = cutIf (G .half) (has c (G .half) && eqb (t .kind) (G .pair)) t ts
+
+-- the number of tokens, a pair counted twice
+abbrev pub weigh : Bool → ℕ → ℕ
+weigh true n = suc (suc n)
+weigh false n = suc n
+
+abbrev pub bulk : ℕ → List Tok → ℕ
+bulk p [] = 0
+bulk p (t ∷ ts) = weigh (eqb (t .kind) p) (bulk p ts)
 
 -- a reader of each symbol
 abbrev pub Reads : Grammar → Type 0
@@ -103,7 +126,7 @@ module _ {G : Grammar} where
     -- the parts of a production, one after the other
     abbrev pub parts : Reads G → (is : Items G) → ℕ → List Tok → Res (Forest G is)
     parts rec [] a ts = got end ts
-    parts rec (one c ∷ is) a ts = onHead P ts (parts rec is a)
+    parts rec (one c ∷ is) a ts = onHead P (cut G c ts) (parts rec is a)
     parts rec (sub s ∷ is) a ts = onTree (rec s a ts) (parts rec is a)
 
   abbrev pub paid : Plan G → {s : G .Symbol} (p : G .Rule s) → Toll → Bool → Res (Forest G (G .parts s p)) → List Tok → Res (Tree G s)
@@ -126,4 +149,4 @@ deep G W C P (suc n) s a ts = step G W C P (deep G W C P n) s a ts
 
 -- reading, with a depth that is always enough (`Fix.fix`)
 unfoldable pub read : (G : Grammar) (W : Tolls G) (C : Terms G) (P : Plan G) → Reads G
-read G W C P s a ts = deep G W C P (64 + 64 * length ts) s a ts
+read G W C P s a ts = deep G W C P (64 + 64 * bulk (G .pair) ts) s a ts

@@ -116,11 +116,11 @@ marks [] = []
 marks (part x w r i ∷ ps) = record { token = x; phrase = w; reach = r; steps = stepsAt ps } ∷ marks ps
 marks (then s ∷ ps) = marks ps
 
--- the marks of each production's parts; the record's kind for a token that leaves one; the tokens that number a record's flag
+-- the marks of each production's parts; the record's kind for a token that leaves one; the sets that number its flag
 pub record Outs (G : Grammar) : Type 0 where
   pub marks : (s : G .Symbol) → G .Rule s → List Mark
   pub leafs : List (ℕ × List ℕ)
-  pub flags : List (ℕ × List ℕ)
+  pub flags : List (ℕ × List (List ℕ))
 
 abbrev pub pickN : Bool → ℕ → ℕ → ℕ
 pickN true a b = a
@@ -130,12 +130,12 @@ abbrev pub leafKind : List (ℕ × List ℕ) → ℕ → ℕ
 leafKind [] k = 0
 leafKind (x ∷ xs) k = pickN (has (x .1) k) (x .0) (leafKind xs k)
 
--- the place in a list, from 0
-abbrev pub placeIn : List ℕ → ℕ → ℕ
+-- the place of the first set with k in a list of sets, from 0
+abbrev pub placeIn : List (List ℕ) → ℕ → ℕ
 placeIn [] k = 0
-placeIn (x ∷ xs) k = pickN (eqb k x) 0 (suc (placeIn xs k))
+placeIn (x ∷ xs) k = pickN (has x k) 0 (suc (placeIn xs k))
 
-abbrev pub flagOf : List (ℕ × List ℕ) → ℕ → ℕ → ℕ
+abbrev pub flagOf : List (ℕ × List (List ℕ)) → ℕ → ℕ → ℕ
 flagOf [] r k = 0
 flagOf (x ∷ xs) r k = pickN (eqb r (x .0)) (placeIn (x .1) k) (flagOf xs r k)
 

@@ -13,52 +13,71 @@ use quanta_reading::answer::Answer;
 use quanta_reading::finish::finish;
 use quanta_reading::finish::no_token_room;
 use quanta_reading::finish::refuse;
+use quanta_token::edition::Edition;
 ghost use lib.ListN.{length};
 ghost use Rattle.quanta_grammar.specs.Productions.{programCall, itemCall, stmtCall, exprCall, typeCall};
 ghost use Rattle.quanta_reading.specs.Reading.{Conforms};
 ghost use Rattle.quanta_reading.specs.Demand3.{Faithful};
 
 // A program.
-pub fn parse(source: &[u8], words: &[u8], tokens: &mut [u32], tree: &mut [u32]) -> Answer
+pub fn parse(
+    edition: Edition,
+    source: &[u8],
+    words: &[u8],
+    tokens: &mut [u32],
+    tree: &mut [u32],
+) -> Answer
     ensures { λ r.
-        ⌜ Conforms programCall (now (source .entry)) (now (words .entry)) (length (now (tokens .entry))) (length (now (tree .entry))) r (now (tokens .exit)) (now (tree .exit))
-        × Faithful programCall (now (source .entry)) (now (words .entry)) (length (now (tokens .entry))) (length (now (tree .entry))) r (now (tree .exit)) ⌝ }
+        ⌜ Conforms edition programCall (now (source .entry)) (now (words .entry)) (length (now (tokens .entry))) (length (now (tree .entry))) r (now (tokens .exit)) (now (tree .exit))
+        × Faithful edition programCall (now (source .entry)) (now (words .entry)) (length (now (tokens .entry))) (length (now (tree .entry))) r (now (tree .exit)) ⌝ }
 {
-    match tokenize(source, words, tokens) {
+    match tokenize(edition, source, words, tokens) {
         Lexed::Refused { number, start, end } => refuse(tree, number, start, end),
         Lexed::Short(need) => no_token_room(tree, need),
         Lexed::Accepted(n) => {
             let used = 3 * n;
-            let parsed = whole_program(source, &tokens[..used], tree);
+            let parsed = whole_program(edition, source, &tokens[..used], tree);
             finish(tree, n, parsed)
         }
     }
 }
 
 // One item of a contract.
-pub fn parse_item(source: &[u8], words: &[u8], tokens: &mut [u32], tree: &mut [u32]) -> Answer
+pub fn parse_item(
+    edition: Edition,
+    source: &[u8],
+    words: &[u8],
+    tokens: &mut [u32],
+    tree: &mut [u32],
+) -> Answer
     ensures { λ r.
-        ⌜ Conforms itemCall (now (source .entry)) (now (words .entry)) (length (now (tokens .entry))) (length (now (tree .entry))) r (now (tokens .exit)) (now (tree .exit))
-        × Faithful itemCall (now (source .entry)) (now (words .entry)) (length (now (tokens .entry))) (length (now (tree .entry))) r (now (tree .exit)) ⌝ }
+        ⌜ Conforms edition itemCall (now (source .entry)) (now (words .entry)) (length (now (tokens .entry))) (length (now (tree .entry))) r (now (tokens .exit)) (now (tree .exit))
+        × Faithful edition itemCall (now (source .entry)) (now (words .entry)) (length (now (tokens .entry))) (length (now (tree .entry))) r (now (tree .exit)) ⌝ }
 {
-    match tokenize(source, words, tokens) {
+    match tokenize(edition, source, words, tokens) {
         Lexed::Refused { number, start, end } => refuse(tree, number, start, end),
         Lexed::Short(need) => no_token_room(tree, need),
         Lexed::Accepted(n) => {
             let used = 3 * n;
-            let parsed = whole_item(source, &tokens[..used], tree);
+            let parsed = whole_item(edition, source, &tokens[..used], tree);
             finish(tree, n, parsed)
         }
     }
 }
 
 // One statement.
-pub fn parse_stmt(source: &[u8], words: &[u8], tokens: &mut [u32], tree: &mut [u32]) -> Answer
+pub fn parse_stmt(
+    edition: Edition,
+    source: &[u8],
+    words: &[u8],
+    tokens: &mut [u32],
+    tree: &mut [u32],
+) -> Answer
     ensures { λ r.
-        ⌜ Conforms stmtCall (now (source .entry)) (now (words .entry)) (length (now (tokens .entry))) (length (now (tree .entry))) r (now (tokens .exit)) (now (tree .exit))
-        × Faithful stmtCall (now (source .entry)) (now (words .entry)) (length (now (tokens .entry))) (length (now (tree .entry))) r (now (tree .exit)) ⌝ }
+        ⌜ Conforms edition stmtCall (now (source .entry)) (now (words .entry)) (length (now (tokens .entry))) (length (now (tree .entry))) r (now (tokens .exit)) (now (tree .exit))
+        × Faithful edition stmtCall (now (source .entry)) (now (words .entry)) (length (now (tokens .entry))) (length (now (tree .entry))) r (now (tree .exit)) ⌝ }
 {
-    match tokenize(source, words, tokens) {
+    match tokenize(edition, source, words, tokens) {
         Lexed::Refused { number, start, end } => refuse(tree, number, start, end),
         Lexed::Short(need) => no_token_room(tree, need),
         Lexed::Accepted(n) => {
@@ -70,12 +89,18 @@ pub fn parse_stmt(source: &[u8], words: &[u8], tokens: &mut [u32], tree: &mut [u
 }
 
 // One expression.
-pub fn parse_expr(source: &[u8], words: &[u8], tokens: &mut [u32], tree: &mut [u32]) -> Answer
+pub fn parse_expr(
+    edition: Edition,
+    source: &[u8],
+    words: &[u8],
+    tokens: &mut [u32],
+    tree: &mut [u32],
+) -> Answer
     ensures { λ r.
-        ⌜ Conforms exprCall (now (source .entry)) (now (words .entry)) (length (now (tokens .entry))) (length (now (tree .entry))) r (now (tokens .exit)) (now (tree .exit))
-        × Faithful exprCall (now (source .entry)) (now (words .entry)) (length (now (tokens .entry))) (length (now (tree .entry))) r (now (tree .exit)) ⌝ }
+        ⌜ Conforms edition exprCall (now (source .entry)) (now (words .entry)) (length (now (tokens .entry))) (length (now (tree .entry))) r (now (tokens .exit)) (now (tree .exit))
+        × Faithful edition exprCall (now (source .entry)) (now (words .entry)) (length (now (tokens .entry))) (length (now (tree .entry))) r (now (tree .exit)) ⌝ }
 {
-    match tokenize(source, words, tokens) {
+    match tokenize(edition, source, words, tokens) {
         Lexed::Refused { number, start, end } => refuse(tree, number, start, end),
         Lexed::Short(need) => no_token_room(tree, need),
         Lexed::Accepted(n) => {
@@ -87,17 +112,23 @@ pub fn parse_expr(source: &[u8], words: &[u8], tokens: &mut [u32], tree: &mut [u
 }
 
 // One type.
-pub fn parse_type(source: &[u8], words: &[u8], tokens: &mut [u32], tree: &mut [u32]) -> Answer
+pub fn parse_type(
+    edition: Edition,
+    source: &[u8],
+    words: &[u8],
+    tokens: &mut [u32],
+    tree: &mut [u32],
+) -> Answer
     ensures { λ r.
-        ⌜ Conforms typeCall (now (source .entry)) (now (words .entry)) (length (now (tokens .entry))) (length (now (tree .entry))) r (now (tokens .exit)) (now (tree .exit))
-        × Faithful typeCall (now (source .entry)) (now (words .entry)) (length (now (tokens .entry))) (length (now (tree .entry))) r (now (tree .exit)) ⌝ }
+        ⌜ Conforms edition typeCall (now (source .entry)) (now (words .entry)) (length (now (tokens .entry))) (length (now (tree .entry))) r (now (tokens .exit)) (now (tree .exit))
+        × Faithful edition typeCall (now (source .entry)) (now (words .entry)) (length (now (tokens .entry))) (length (now (tree .entry))) r (now (tree .exit)) ⌝ }
 {
-    match tokenize(source, words, tokens) {
+    match tokenize(edition, source, words, tokens) {
         Lexed::Refused { number, start, end } => refuse(tree, number, start, end),
         Lexed::Short(need) => no_token_room(tree, need),
         Lexed::Accepted(n) => {
             let used = 3 * n;
-            let parsed = whole_type(source, &tokens[..used], tree);
+            let parsed = whole_type(edition, source, &tokens[..used], tree);
             finish(tree, n, parsed)
         }
     }

@@ -21,7 +21,7 @@ use Rattle.quanta_grammar.specs.RefusalKind.{refusalCode, expected-identifier}
 use Rattle.quanta_grammar.specs.Productions.{grammar, outs, name, moreNames, expr, clause, duration, fromOpt, int-unit, writes, reads as reads-clause, conserves, mints, burns, limits, denies, after-expr, after-duration, from-expr, no-from}
 use Rattle.quanta_grammar.specs.Guides.{guide}
 use Rattle.quanta_grammar.specs.Reading.{targets, reads}
-use Rattle.quanta_grammar.specs.Refine.{plainKind}
+use Rattle.quanta_grammar.specs.Refine.{Text, plainKind}
 use Rattle.quanta_cursor.specs.declared.parser.TokenPos.{TokenPos}
 use Rattle.quanta_cursor.specs.declared.parser.RecordNo.{RecordNo}
 use Rattle.quanta_cursor.specs.declared.parser.Span.{Span}
@@ -62,7 +62,7 @@ pub has-three : {A : Type 0} (k c d e : ℕ) → T (has (c ∷ d ∷ e ∷ []) k
 has-three k c d e t f g h = or-cases (eqb k c) (has (d ∷ e ∷ []) k) t (λ z. f (eqb→eq k c z)) (λ z. has-two k d e z g h)
 
 -- A KEYWORD is of its own kind, and tells the kind of its clause's record
-fine-is : (k : ℕ) → T (coarse (k ∷ [])) → (src ws : List ℕ) (i : ℕ) → kindAt ws i ≡ k → fineAt src ws i ≡ k
+fine-is : (k : ℕ) → T (coarse (k ∷ [])) → (src : Text) (ws : List ℕ) (i : ℕ) → kindAt ws i ≡ k → fineAt src ws i ≡ k
 fine-is k c src ws i e = has-one (fineAt src ws i) k (fine-in (k ∷ []) c src ws i (is-one k e))
 
 abbrev Away : List (TokenKind × NodeKind) → ℕ → Type 0
@@ -74,7 +74,7 @@ kind-none [] k a = refl
 kind-none (r ∷ rs) k a = ap (λ (b : Bool). pickN b (nodeCode (r .1)) (kindIn rs k)) (ne-eqb k (code (r .0)) (a .0)) ∙ kind-none rs k (a .1)
 
 -- a name leaves the record of a name
-name-kind : (src ws : List ℕ) (i : ℕ) → T (has name (kindAt ws i)) → leafKind (outs .leafs) (fineAt src ws i) ≡ nodeCode name-node
+name-kind : (src : Text) (ws : List ℕ) (i : ℕ) → T (has name (kindAt ws i)) → leafKind (outs .leafs) (fineAt src ws i) ≡ nodeCode name-node
 name-kind src ws i t =
     has-three (fineAt src ws i) _ _ _ (fine-in name tt src ws i t) (λ z. ap (leafKind (outs .leafs)) z) (λ z. ap (leafKind (outs .leafs)) z) (λ z. ap (leafKind (outs .leafs)) z)
 
@@ -82,7 +82,7 @@ zero-plus : (n : ℕ) → 0 + n ≡ n
 zero-plus n = omega arith
 
 -- what is under way behind the keyword k at i, whose span and place are the clause's
-pub record Opening (src ws : List ℕ) (i a p k : ℕ) (ms : ℕ → List Mark) (is : Items grammar) : Type 0 where
+pub record Opening (src : Text) (ws : List ℕ) (i a p k : ℕ) (ms : ℕ → List Mark) (is : Items grammar) : Type 0 where
   pub doing : Doing (reads clause a (from src ws i) fresh) src ws (tokAt src ws i) (ms (clauseKind k)) is a p (leave outs own widens (tokAt src ws i) fresh)
   pub flagless : (j : ℕ) → flagOf (outs .flags) (clauseKind k) j ≡ 0
 
@@ -101,7 +101,7 @@ abbrev afterSteps : Bool → List Step
 afterSteps true = plus (flagCode has-duration) ∷ []
 afterSteps false = []
 
-module _ (src ws : List ℕ) (i a : ℕ) (h : i < size ws) {p : ℕ} (q : p ≡ i + 1) where
+module _ (src : Text) (ws : List ℕ) (i a : ℕ) (h : i < size ws) {p : ℕ} (q : p ≡ i + 1) where
   chosen : (k : ℕ) → T (coarse (k ∷ [])) → kindAt ws i ≡ k → pick (guide clause) (fineAt src ws i) ≡ pick (guide clause) k
   chosen k f e = ap (pick (guide clause)) (fine-is k f src ws i e)
 
@@ -128,7 +128,7 @@ module _ (src ws : List ℕ) (i a : ℕ) (h : i < size ws) {p : ℕ} (q : p ≡ 
       (λ e. opening e (record { doing = eat (begin src ws i h clause denies a fresh (chosen (code Denies) tt e) refl) tt h (is-one (code Denies) e) q; flagless = λ j. refl }))
 
 -- A CLAUSE OF ONE NAME
-module _ (src ws : List ℕ) (a : ℕ) {i n p : ℕ} (g : Ready ws i n) (w : T (has ofName (kindAt ws i))) (q : p ≡ i + 1) where
+module _ (src : Text) (ws : List ℕ) (a : ℕ) {i n p : ℕ} (g : Ready ws i n) (w : T (has ofName (kindAt ws i))) (q : p ≡ i + 1) where
   pub name-past : Ready ws p n
   name-past = ready-past g (past-in ofName (λ u. u) (g .closed) (g .inside) w) q
 
@@ -155,7 +155,7 @@ module _ (src ws : List ℕ) (a : ℕ) {i n p : ℕ} (g : Ready ws i n) (w : T (
           (past-in name (λ u. u) (g .closed) (name-past .inside) (d .0)))
 
 -- A CLAUSE OF ONE EXPRESSION
-module _ (src ws : List ℕ) (a : ℕ) {i n p : ℕ} (g : Ready ws i n) (w : T (has ofExpr (kindAt ws i))) (q : p ≡ i + 1) where
+module _ (src : Text) (ws : List ℕ) (a : ℕ) {i n p : ℕ} (g : Ready ws i n) (w : T (has ofExpr (kindAt ws i))) (q : p ≡ i + 1) where
   pub expr-past : Ready ws p n
   expr-past = ready-past g (past-in ofExpr (λ u. u) (g .closed) (g .inside) w) q
 
@@ -188,7 +188,7 @@ module _ {ws t : List ℕ} {i n : ℕ} {y : Expected} (v : Expects ws i (code LP
     pub first-inside : {r : Parsed} {t′ : List ℕ} → Words name (nodeCode name-node) (refusalCode expected-identifier) ws t (p .0) n r t′ → FirstName ws t i n r t′
     first-inside {r} {t′} x = record { by = first-by r (subst (λ (j : ℕ). Words name (nodeCode name-node) (refusalCode expected-identifier) ws t j n r t′) (next-of z v .1) x) }
 
-module _ (src ws : List ℕ) (a : ℕ) {i n p : ℕ} (g : Ready ws i n) (w : T (has ofNames (kindAt ws i))) (q : p ≡ i + 1) where
+module _ (src : Text) (ws : List ℕ) (a : ℕ) {i n p : ℕ} (g : Ready ws i n) (w : T (has ofNames (kindAt ws i))) (q : p ≡ i + 1) where
   pub names-past : Ready ws p n
   names-past = ready-past g (past-in ofNames (λ u. u) (g .closed) (g .inside) w) q
 
@@ -236,7 +236,7 @@ module _ (src ws : List ℕ) (a : ℕ) {i n p : ℕ} (g : Ready ws i n) (w : T (
             c
 
 -- AN `AFTER`: its target is a duration or an expression
-module _ (src ws : List ℕ) (a : ℕ) {i n p : ℕ} (g : Ready ws i n) (w : kindAt ws i ≡ code After) (q : p ≡ i + 1) where
+module _ (src : Text) (ws : List ℕ) (a : ℕ) {i n p : ℕ} (g : Ready ws i n) (w : kindAt ws i ≡ code After) (q : p ≡ i + 1) where
   abbrev held : Row → Reached → ℕ → Acc
   held row s f = record { row = row; reach = s; mine = tokAt src ws i; sum = f }
 
@@ -251,8 +251,8 @@ module _ (src ws : List ℕ) (a : ℕ) {i n p : ℕ} (g : Ready ws i n) (w : kin
 
   after-begun : (b : Bool) → fineAt src ws i ≡ afterKind b
       → Doing (reads clause a (from src ws i) fresh) src ws (tokAt src ws i) (mark nothing pass replaces (afterSteps b) ∷ mark nothing fold apart (start ∷ make (nodeCode after-node) ∷ []) ∷ []) (sub (targetOf b) ∷ sub fromOpt ∷ []) a p (leave outs own apart (tokAt src ws i) fresh)
-  after-begun true e = eat-fine (begin src ws i (g .inside) clause after-duration a fresh (ap (pick (guide clause)) e) refl) (g .inside) (subst (λ (k : ℕ). T (has (fine AfterSpan ∷ []) k)) (sym e) tt) q
-  after-begun false e = eat-fine (begin src ws i (g .inside) clause after-expr a fresh (ap (pick (guide clause)) e) refl) (g .inside) (subst (λ (k : ℕ). T (has (code After ∷ []) k)) (sym e) tt) q
+  after-begun true e = eat-fine (begin src ws i (g .inside) clause after-duration a fresh (ap (pick (guide clause)) e) refl) tt (g .inside) (subst (λ (k : ℕ). T (has (fine AfterSpan ∷ []) k)) (sym e) tt) q
+  after-begun false e = eat-fine (begin src ws i (g .inside) clause after-expr a fresh (ap (pick (guide clause)) e) refl) tt (g .inside) (subst (λ (k : ℕ). T (has (code After ∷ []) k)) (sym e) tt) q
 
   pub after-bad : {e : Refusal} → Failed (reads (targetOf (isDuration src ws p)) a (from src ws p) fresh) e → Failed (reads clause a (from src ws i) fresh) e
   after-bad f = fails (after-begun (isDuration src ws p) after-is) f
@@ -326,7 +326,7 @@ module _ (src ws : List ℕ) (a : ℕ) {i n p : ℕ} (g : Ready ws i n) (w : kin
 abbrev two : List ℕ → ℕ → ℕ → ℕ → Acc
 two ws i j k = record { row = put (put none (leafRec ws i j) none) (leafRec ws (i + 1) k) none; reach = span (joined (spanAt ws i) (spanAt ws (i + 1)) .start) (joined (spanAt ws i) (spanAt ws (i + 1)) .end); mine = noTok; sum = 0 }
 
-module _ (src ws : List ℕ) {i n : ℕ} (g : Ready ws i n) (d : T (isDuration src ws i)) where
+module _ (src : Text) (ws : List ℕ) {i n : ℕ} (g : Ready ws i n) (d : T (isDuration src ws i)) where
   parts : T (eqb (kindAt ws i) (code Int)) × T (isUnit src ws (i + 1))
   parts = both (eqb (kindAt ws i) (code Int)) (isUnit src ws (i + 1)) d
 
@@ -359,8 +359,8 @@ module _ (src ws : List ℕ) {i n : ℕ} (g : Ready ws i n) (d : T (isDuration s
           record {
             all = record {
               acc = two ws i (nodeCode int-node) (nodeCode name-node);
-              gave = over (eat-fine (eat (begin src ws i (g .inside) duration int-unit a fresh refl refl) tt (g .inside) (is-one (code Int) integer) refl) value-past (parts .1) refl)
-                  ∙ ap (λ (j : ℕ). left (two ws i j (leafKind (outs .leafs) (fineAt src ws (i + 1)))) (from src ws (i + 1 + 1))) (fine-kind (leafKind (outs .leafs)) refl refl refl src ws i ∙ ap (leafKind (outs .leafs)) integer)
+              gave = over (eat-fine (eat (begin src ws i (g .inside) duration int-unit a fresh refl refl) tt (g .inside) (is-one (code Int) integer) refl) tt value-past (parts .1) refl)
+                  ∙ ap (λ (j : ℕ). left (two ws i j (leafKind (outs .leafs) (fineAt src ws (i + 1)))) (from src ws (i + 1 + 1))) (fine-kind (leafKind (outs .leafs)) refl refl refl refl src ws i ∙ ap (leafKind (outs .leafs)) integer)
                   ∙ ap (λ (j : ℕ). left (two ws i (nodeCode int-node) j) (from src ws (i + 1 + 1))) (ap (leafKind (outs .leafs)) unit-kind)
                   ∙ ap (λ (j : ℕ). left (two ws i (nodeCode int-node) (nodeCode name-node)) (from src ws j)) (sym unit-at);
               many = refl;
@@ -375,22 +375,23 @@ module _ (src ws : List ℕ) {i n : ℕ} (g : Ready ws i n) (d : T (isDuration s
           spanned = l ∙ ap (λ (m : Node). joined (m .span) (u .span)) x ∙ ap (λ (u : Node). joined (spanAt ws i) (u .span)) y ∙ ap (λ (j : ℕ). joined (spanAt ws i) (spanAt ws j)) value-at
 
 -- .. or an expression
-pub value-took : {o : Outcome} {src ws t : List ℕ} {n : ℕ} {m : Node} {t′ : List ℕ} → Took o src ws t n m t′ → TookTarget o src ws t n 0 (record { at = m .at; no = m .no; span = m .span; flag = 0; count = 1 }) t′
+pub value-took : {o : Outcome} {src : Text} {ws t : List ℕ} {n : ℕ} {m : Node} {t′ : List ℕ} → Took o src ws t n m t′ → TookTarget o src ws t n 0 (record { at = m .at; no = m .no; span = m .span; flag = 0; count = 1 }) t′
 value-took {m = m} k = record { all = record { acc = single (k .top) (k .below) (m .span); gave = k .gave; many = refl; laid = k .laid; inside = k .inside }; reach = refl; flagged = refl }
 
 -- .. as the code told it
-pub target-is : {src ws : List ℕ} {i n a : ℕ} {t : List ℕ} {r : Targeted} {t′ : List ℕ} {b : Bool} (c : Bool) → b ≡ isDuration src ws i → b ≡ c → AnswersTarget c src ws i n a t r t′ → Targets src ws i n a t r t′
+pub target-is : {src : Text} {ws : List ℕ} {i n a : ℕ} {t : List ℕ} {r : Targeted} {t′ : List ℕ} {b : Bool} (c : Bool) → b ≡ isDuration src ws i → b ≡ c → AnswersTarget c src ws i n a t r t′ → Targets src ws i n a t r t′
 target-is {src} {ws} {i} {n} {a} {t} {r} {t′} c e f x = record { by = subst (λ (b : Bool). AnswersTarget b src ws i n a t r t′) (sym f ∙ e) x }
 
-pub target-true : (src ws : List ℕ) (i : ℕ) {b : Bool} → b ≡ isDuration src ws i → b ≡ true → T (isDuration src ws i)
+pub target-true : (src : Text) (ws : List ℕ) (i : ℕ) {b : Bool} → b ≡ isDuration src ws i → b ≡ true
+    → T (isDuration src ws i)
 target-true src ws i e f = subst T (sym f ∙ e) tt
 
-pub duration-target : {src ws : List ℕ} {i n : ℕ} → Ready ws i n → {b : Bool} → b ≡ isDuration src ws i → b ≡ true → {m : Node} → m ≡ leafNode ws i n (nodeCode int-node) → {u : Node} → u ≡ leafNode ws (m .at .0) (m .no .0) (nodeCode name-node)
+pub duration-target : {src : Text} {ws : List ℕ} {i n : ℕ} → Ready ws i n → {b : Bool} → b ≡ isDuration src ws i → b ≡ true → {m : Node} → m ≡ leafNode ws i n (nodeCode int-node) → {u : Node} → u ≡ leafNode ws (m .at .0) (m .no .0) (nodeCode name-node)
     → {a : ℕ} {t t₁ t₂ : List ℕ} {s : Span} {flag : ℕ} → t₁ ≡ putRec t n (leafRec ws i (nodeCode int-node)) → t₂ ≡ putRec t₁ (m .no .0) (leafRec ws (m .at .0) (nodeCode name-node)) → s ≡ joined (m .span) (u .span) → flag ≡ flagCode has-duration
     → Targets src ws i n a t (targeted.Target (record { at = u .at; no = u .no; span = s; flag = flag; count = 2 })) t₂
 duration-target {src} {ws} {i} g e f x y {a} h k l w = target-is true e f (duration-took src ws g (target-true src ws i e f) x y a h k l w)
 
-module _ {src ws : List ℕ} {i n a : ℕ} {t : List ℕ} {y : Targeted} {t′ : List ℕ} (v : Targets src ws i n a t y t′) where
+module _ {src : Text} {ws : List ℕ} {i n a : ℕ} {t : List ℕ} {y : Targeted} {t′ : List ℕ} (v : Targets src ws i n a t y t′) where
   pub target-of : {r : AfterTarget} → y ≡ targeted.Target r → TookTarget (reads (targetOf (isDuration src ws i)) a (from src ws i) fresh) src ws t n (flagIf (isDuration src ws i)) r t′
   target-of z = subst (λ (y : Targeted). AnswersTarget (isDuration src ws i) src ws i n a t y t′) z (v .by)
 

@@ -14,6 +14,7 @@ use Rattle.quanta_token.specs.TokenKind.{code, Writes, Reads, Conserves, Mints,
 use Rattle.quanta_grammar.specs.Productions.{clause, clauses}
 use Rattle.quanta_grammar.specs.Guides.{clauseStart}
 use Rattle.quanta_grammar.specs.Reading.{reads}
+use Rattle.quanta_grammar.specs.Refine.{Text}
 use Rattle.quanta_cursor.specs.declared.parser.TokenPos.{TokenPos}
 use Rattle.quanta_cursor.specs.declared.parser.RecordNo.{RecordNo}
 use Rattle.quanta_cursor.specs.declared.parser.Parsed.{Parsed}
@@ -44,7 +45,7 @@ module _ {j k : ℕ} (e : j ≡ k) where
   is-expr h l = at-or (code Limits) j h (λ z. is-in ofExpr (code Limits) e z tt) (λ h. is-in ofExpr (code Denies) e (omega arith) tt)
 
 -- a clause begins there, or none
-module _ (src ws : List ℕ) (i : ℕ) where
+module _ (src : Text) (ws : List ℕ) (i : ℕ) where
   starts : T (has clauseStart (kindAt ws i)) → T (has clauseStart (fineAt src ws i))
   starts t = fine-in clauseStart tt src ws i t
 
@@ -78,17 +79,17 @@ module _ (src ws : List ℕ) (i : ℕ) where
       ))
 
 -- ONE TURN: the clause at i was read, and its answer is r
-pub record Turn (src ws : List ℕ) (a i n : ℕ) (t : List ℕ) (r : Parsed) (t′ : List ℕ) : Type 0 where
+pub record Turn (src : Text) (ws : List ℕ) (a i n : ℕ) (t : List ℕ) (r : Parsed) (t′ : List ℕ) : Type 0 where
   pub goes : T (has clauseStart (fineAt src ws i))
   pub met : Meets (reads clause a (from src ws i) fresh) src ws t n r t′
   pub long : length t′ ≡ length t
 
-pub turned : {src ws : List ℕ} {a i n : ℕ} {t : List ℕ} {r r′ : Parsed} {t′ t″ : List ℕ} → T (has clauseStart (fineAt src ws i)) → r′ ≡ r → t″ ≡ t′ → Meets (reads clause a (from src ws i) fresh) src ws t n r t′ → length t′ ≡ length t → Turn src ws a i n t r′ t″
+pub turned : {src : Text} {ws : List ℕ} {a i n : ℕ} {t : List ℕ} {r r′ : Parsed} {t′ t″ : List ℕ} → T (has clauseStart (fineAt src ws i)) → r′ ≡ r → t″ ≡ t′ → Meets (reads clause a (from src ws i) fresh) src ws t n r t′ → length t′ ≡ length t → Turn src ws a i n t r′ t″
 turned {src} {ws} {a} {i} {n} {t} {r} {r′} {t′} {t″} g e f m l =
     subst (λ (r : Parsed). Turn src ws a i n t r t″) (sym e) (subst (λ (t′ : List ℕ). Turn src ws a i n t r t′) (sym f) (record { goes = g; met = m; long = l }))
 
 -- THE END of the list
-pub clauses-end : {src ws : List ℕ} {a i n : ℕ} {t : List ℕ} {p : TokenPos} {q : RecordNo} {c : ℕ} {tree : List ℕ} → Rolling clauses src ws a i n 0 t (p .0) (q .0) c tree → (T (has clauseStart (fineAt src ws (p .0))) → ⊥)
+pub clauses-end : {src : Text} {ws : List ℕ} {a i n : ℕ} {t : List ℕ} {p : TokenPos} {q : RecordNo} {c : ℕ} {tree : List ℕ} → Rolling clauses src ws a i n 0 t (p .0) (q .0) c tree → (T (has clauseStart (fineAt src ws (p .0))) → ⊥)
     → TookAll (reads clauses a (from src ws i) fresh) src ws t n (record { at = p; no = q; count = c }) tree
 clauses-end {src} {ws} {a} {i} {n} {t} v z =
     let g = v .carries (reads clauses a (from src ws i) fresh) t n fresh (roll-in fresh refl) in

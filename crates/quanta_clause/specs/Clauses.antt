@@ -13,6 +13,7 @@ use Rattle.quanta_grammar.specs.NodeKind.{NodeKind, nodeCode, flagCode, has-dur
 use Rattle.quanta_grammar.specs.RefusalKind.{refusalCode, expected-token, expected-identifier}
 use Rattle.quanta_grammar.specs.Productions.{Symbol, name, expr, duration}
 use Rattle.quanta_grammar.specs.Reading.{reads}
+use Rattle.quanta_grammar.specs.Refine.{Text}
 use Rattle.quanta_cursor.specs.declared.parser.Node.{Node}
 use Rattle.quanta_cursor.specs.declared.parser.Parsed.{Parsed}
 use Rattle.quanta_cursor.specs.declared.parser.Parsed.the-variants as parsed
@@ -75,14 +76,15 @@ abbrev pub flagIf : Bool → ℕ
 flagIf true = flagCode has-duration
 flagIf false = 0
 
-pub record TookTarget (o : Outcome) (src ws t : List ℕ) (n flag : ℕ) (r : AfterTarget) (t′ : List ℕ) : Type 0 where
+pub record TookTarget (o : Outcome) (src : Text) (ws t : List ℕ) (n flag : ℕ) (r : AfterTarget)
+    (t′ : List ℕ) : Type 0 where
   pub all : TookAll o src ws t n (record { at = r .at; no = r .no; count = r .count }) t′
   pub reach : all .acc .reach ≡ span (r .span .start) (r .span .end)
   pub flagged : r .flag ≡ flag
 
-abbrev pub AnswersTarget : Bool → List ℕ → List ℕ → ℕ → ℕ → ℕ → List ℕ → Targeted → List ℕ → Type 0
+abbrev pub AnswersTarget : Bool → Text → List ℕ → ℕ → ℕ → ℕ → List ℕ → Targeted → List ℕ → Type 0
 AnswersTarget b src ws i n a t (targeted.Target r) t′ = TookTarget (reads (targetOf b) a (from src ws i) fresh) src ws t n (flagIf b) r t′
 AnswersTarget b src ws i n a t (targeted.Refused e) t′ = Failed (reads (targetOf b) a (from src ws i) fresh) e
 
-pub record Targets (src ws : List ℕ) (i n a : ℕ) (t : List ℕ) (r : Targeted) (t′ : List ℕ) : Type 0 where
+pub record Targets (src : Text) (ws : List ℕ) (i n a : ℕ) (t : List ℕ) (r : Targeted) (t′ : List ℕ) : Type 0 where
   pub by : AnswersTarget (isDuration src ws i) src ws i n a t r t′

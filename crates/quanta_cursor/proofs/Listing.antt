@@ -13,7 +13,6 @@ use Rattle.grammar.specs.Fused.{Outcome, left}
 use Rattle.grammar.proofs.Fuse.{onward, onward-onward, fits}
 use Rattle.grammar.proofs.Lines.{mark, fit-yes, unminded}
 use Rattle.grammar.proofs.Loops.{onward-same}
-use Rattle.quanta_token.specs.TokenKind.{code, Comma}
 use Rattle.quanta_grammar.specs.Productions.{Symbol, grammar}
 use Rattle.quanta_grammar.specs.Reading.{targets, reads}
 use Rattle.quanta_grammar.proofs.Steps.{go}
@@ -22,16 +21,17 @@ use Rattle.quanta_cursor.specs.declared.parser.Nodes.{Nodes}
 use Rattle.quanta_cursor.specs.declared.parser.Refusal.{Refusal}
 use Rattle.quanta_cursor.specs.declared.parser.Listed.{Listed}
 use Rattle.quanta_cursor.specs.declared.parser.Listed.the-variants as listed
-use Rattle.quanta_cursor.specs.Tokens.{kindAt, fineAt, from, Ready}
+use Rattle.quanta_cursor.specs.Tokens.{fineAt, from, Ready}
 use Rattle.quanta_cursor.specs.Answers.{Failed, Took}
-use Rattle.quanta_cursor.proofs.Places.{past-as, ready-past, took-onward, took-ready}
+use Rattle.quanta_cursor.proofs.Places.{took-onward, took-ready}
 use Rattle.quanta_cursor.proofs.Meeting.{failed-onward}
 use Rattle.quanta_cursor.proofs.Doing.{Doing}
-use Rattle.quanta_cursor.proofs.Lists.{Run, Commas, Rolls, roll-in, roll-first, run-on, run-bad, run-stop, comma-on, comma-bad, comma-stop, took-more}
+use Rattle.quanta_cursor.proofs.Lists.{Run, Rolls, roll-in, run-on, run-bad, run-stop, took-more}
 use Rattle.quanta_cursor.specs.Lists.{TookOn, AnswersOn, ListsOn}
+use Rattle.quanta_grammar.specs.Refine.{Text}
 
 -- an answer that is taken apart
-module _ {o : Outcome} {x : Acc} {src ws t : List ℕ} {n : ℕ} {r : Listed} {t′ : List ℕ} where
+module _ {o : Outcome} {x : Acc} {src : Text} {ws t : List ℕ} {n : ℕ} {r : Listed} {t′ : List ℕ} where
   pub on-of : {m : Nodes} → r ≡ listed.Nodes m → ListsOn o x src ws t n r t′ → TookOn o x src ws t n m t′
   on-of z m = subst (λ (r : Listed). AnswersOn o x src ws t n r t′) z (m .by)
 
@@ -39,7 +39,7 @@ module _ {o : Outcome} {x : Acc} {src ws t : List ℕ} {n : ℕ} {r : Listed} {t
   on-failed-of z m = subst (λ (r : Listed). AnswersOn o x src ws t n r t′) z (m .by)
 
 -- an element s and the rest l of the list, as two parts of a production
-module _ {o : Outcome} {src ws : List ℕ} {t₀ : Tok} {ms : List Mark} {is : Items grammar} {a p : ℕ} {x : Acc} {y y′ : Leaf} {r : Reach} {s l : Symbol}
+module _ {o : Outcome} {src : Text} {ws : List ℕ} {t₀ : Tok} {ms : List Mark} {is : Items grammar} {a p : ℕ} {x : Acc} {y y′ : Leaf} {r : Reach} {s l : Symbol}
     (d : Doing o src ws t₀ (mark y pass apart [] ∷ mark y′ fold r [] ∷ ms) (sub s ∷ sub l ∷ is) a p x) (h : T (not (targets .minds s))) where
   whole : o ≡ onward (onward (reads s a (from src ws p) fresh) (λ z q. reads l a q (beside apart x z))) (λ z q. go t₀ ms is a q z)
   whole =
@@ -57,62 +57,17 @@ pub list-none : {o : Outcome} (l : Symbol) (a : ℕ) (x : Acc) {e : Refusal} →
 list-none l a x f = failed-onward (λ y r. reads l a r (beside apart x y)) refl f
 
 -- THE INVARIANT OF A LOOP OVER A LIST at one source: what is under way at its start is under way here
-pub record Rolling (l : Symbol) (src ws : List ℕ) (a p₀ q₀ c₀ : ℕ) (tree₀ : List ℕ) (p q c : ℕ) (tree : List ℕ) : Type 0 where
+pub record Rolling (l : Symbol) (src : Text) (ws : List ℕ) (a p₀ q₀ c₀ : ℕ) (tree₀ : List ℕ) (p q c : ℕ) (tree : List ℕ) : Type 0 where
   pub carries : (o : Outcome) (t : List ℕ) (n : ℕ) (x : Acc) → Rolls l o src ws t n x a p₀ q₀ c₀ tree₀ → Rolls l o src ws t n x a p q c tree
   pub ready : Ready ws p q
   pub few : c ≤ q
   pub long : length tree ≡ length tree₀
 
-pub rolling-in : {l : Symbol} {src ws : List ℕ} {a p q c : ℕ} {tree : List ℕ} → Ready ws p q → c ≤ q → Rolling l src ws a p q c tree p q c tree
+pub rolling-in : {l : Symbol} {src : Text} {ws : List ℕ} {a p q c : ℕ} {tree : List ℕ} → Ready ws p q → c ≤ q → Rolling l src ws a p q c tree p q c tree
 rolling-in g h = record { carries = λ o t n x r. r; ready = g; few = h; long = refl }
 
--- a list of elements s with the rest l, whose first element is read
-module _ {l s : Symbol} (law : Commas l s) {src ws : List ℕ} (a : ℕ) {i : ℕ} {t : List ℕ} {n : ℕ} {m : Node} {tree₀ : List ℕ} (g : Ready ws i n) (k : Took (reads s a (from src ws i) fresh) src ws t n m tree₀) where
-  pub list-begun : Rolling l src ws a (m .at .0) (m .no .0) 1 tree₀ (m .at .0) (m .no .0) 1 tree₀
-  list-begun = let z = took-more k in rolling-in (took-ready src s a g k) (omega arith)
-
-  module _ {p q c : ℕ} {tree : List ℕ} (v : Rolling l src ws a (m .at .0) (m .no .0) 1 tree₀ p q c tree) where
-    abbrev all : Acc → Outcome
-    all x = onward (reads s a (from src ws i) fresh) (λ y r. reads l a r (beside apart x y))
-
-    rolls : (x : Acc) → Rolls l (all x) src ws t n x a p q c tree
-    rolls x = v .carries (all x) t n x (roll-first x a refl k)
-
-    -- its end
-    pub list-ends : {r : Nodes} (x : Acc) → (kindAt ws p ≡ code Comma → ⊥) → r .at .0 ≡ p → r .no .0 ≡ q → r .count ≡ c → TookOn (all x) x src ws t n r tree
-    list-ends {r} x z e f h =
-        record {
-          row = rolls x .row;
-          gave = comma-stop (rolls x) law (v .ready .inside) z ∙ rw e refl;
-          many = h ∙ rolls x .many;
-          laid = rw f (rolls x .laid);
-          ready = rw (e, f) (v .ready);
-        }
-
-    module _ {p′ : ℕ} (z : kindAt ws p ≡ code Comma) (e : p′ ≡ p + 1) where
-      pub comma-past : Ready ws p′ q
-      comma-past = ready-past (v .ready) (past-as (code Comma) (λ u. u) (v .ready .closed) (v .ready .inside) z) e
-
-      pub list-bad : {u : Refusal} (x : Acc) → Failed (reads s a (from src ws p′) fresh) u → Failed (all x) u
-      list-bad x f = comma-bad (rolls x) law (v .ready .inside) z e f
-
-      pub list-on : {m′ : Node} {tree′ : List ℕ} {c′ : ℕ} → Took (reads s a (from src ws p′) fresh) src ws tree q m′ tree′ → c′ ≡ c + 1 → length tree′ ≡ length tree
-          → Rolling l src ws a (m .at .0) (m .no .0) 1 tree₀ (m′ .at .0) (m′ .no .0) c′ tree′
-      list-on {m′} {tree′} {c′} u f w =
-          let y = took-more u in
-          record {
-            carries = λ o t n x b. comma-on (v .carries o t n x b) law (v .ready .inside) z e u f;
-            ready = took-ready src s a comma-past u;
-            few = omega (arith, v .few);
-            long = w ∙ v .long;
-          }
-
-      -- it goes on
-      pub list-less : {m′ : Node} {tree′ : List ℕ} → Took (reads s a (from src ws p′) fresh) src ws tree q m′ tree′ → p < m′ .at .0
-      list-less u = let y = took-onward src s a (comma-past .inside) u in omega arith
-
 -- A LIST THAT RUNS as long as the next kind tells so: elements s one after the other
-module _ {l s : Symbol} {goes : ℕ → Bool} (law : Run l s goes) {src ws : List ℕ} (a : ℕ) {i : ℕ} {t : List ℕ} {n : ℕ} (g : Ready ws i n) where
+module _ {l s : Symbol} {goes : ℕ → Bool} (law : Run l s goes) {src : Text} {ws : List ℕ} (a : ℕ) {i : ℕ} {t : List ℕ} {n : ℕ} (g : Ready ws i n) where
   pub run-begun : Rolling l src ws a i n 0 t i n 0 t
   run-begun = rolling-in g zero-le
 

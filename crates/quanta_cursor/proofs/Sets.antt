@@ -6,11 +6,15 @@ use mathlib.Core.List.{List, [], _∷_}
 use Prim.Native.Nat.{ℕ, suc, _≤_, _<_}
 use native.Mathlib.Omega.{arith}
 use lib.Dec.{T, eqb, eqb→eq, eqb-refl, leb, le→leb}
-use Rattle.grammar.specs.Grammar.{has}
+use Rattle.grammar.specs.Grammar.{Tok, has}
+use Rattle.grammar.proofs.Lines.{stays}
+use Rattle.quanta_grammar.specs.Productions.{grammar}
 use Rattle.grammar.proofs.Table.{both, or-cases, or-left, or-right}
-use Rattle.quanta_token.specs.TokenKind.{code, Ident, After, Eof}
-use Rattle.quanta_grammar.specs.FineKind.{fine, OfWord, UnitWord, AfterSpan}
-use Rattle.quanta_grammar.specs.Refine.{Plain, wordKind, textOf, textKind, classify, spanHere, of, spells, units, plainKind}
+use Rattle.quanta_token.specs.TokenKind.{code, Ident, After, Shr, Eof}
+use Rattle.quanta_token.specs.declared.edition.Edition.{Edition}
+use Rattle.quanta_token.specs.declared.edition.Edition.the-variants.{One, Two}
+use Rattle.quanta_grammar.specs.FineKind.{fine, OfWord, UnitWord, AfterSpan, TwoClosers, OneCloser}
+use Rattle.quanta_grammar.specs.Refine.{Text, Plain, inEdition, wordKind, textOf, textKind, classify, spanHere, of, spells, units, plainKind}
 use Rattle.quanta_cursor.specs.Tokens.{size, kindAt, plainAt, plainFrom, fineAt, Closed}
 
 -- a kind that is in a set, and one that is in none
@@ -49,7 +53,7 @@ pub not-one : {k : ℕ} (c : ℕ) → (k ≡ c → ⊥) → T (has (c ∷ []) k)
 not-one {k} c n = apart (c ∷ []) k (n, tt)
 
 -- what does not tell the finer kinds from the plain ones is the same of both
-module _ {A : Type 0} (f : ℕ → A) (of-word : f (fine OfWord) ≡ f (code Ident)) (unit-word : f (fine UnitWord) ≡ f (code Ident)) (after-span : f (fine AfterSpan) ≡ f (code After)) where
+module _ {A : Type 0} (f : ℕ → A) (of-word : f (fine OfWord) ≡ f (code Ident)) (unit-word : f (fine UnitWord) ≡ f (code Ident)) (after-span : f (fine AfterSpan) ≡ f (code After)) (shr-pair : f (fine TwoClosers) ≡ f (code Shr)) where
   word-kind : (w : List ℕ) → f (wordKind w) ≡ f (code Ident)
   word-kind w = go (spells of w) (spells units w)
     where
@@ -58,12 +62,20 @@ module _ {A : Type 0} (f : ℕ → A) (of-word : f (fine OfWord) ≡ f (code Ide
       go false true = unit-word
       go false false = refl
 
-  text-kind : (src : List ℕ) (t : Plain) → f (textKind src t) ≡ f (t .kind)
-  text-kind src t = go (eqb (t .kind) (code Ident)) (eqb→eq (t .kind) (code Ident)) (wordKind (textOf src t)) (word-kind (textOf src t))
+  shr-kind : (e : Edition) (k : ℕ) → f (inEdition e k) ≡ f k
+  shr-kind One k = refl
+  shr-kind Two k = go (eqb k (code Shr)) (eqb→eq k (code Shr))
     where
-      go : (b : Bool) → (T b → t .kind ≡ code Ident) → (k : ℕ) → f k ≡ f (code Ident) → f (elim b [ true ↦ k | false ↦ t .kind ]) ≡ f (t .kind)
+      go : (b : Bool) → (T b → k ≡ code Shr) → f (elim b [ true ↦ fine TwoClosers | false ↦ k ]) ≡ f k
+      go true e = shr-pair ∙ ap f (sym (e tt))
+      go false e = refl
+
+  text-kind : (src : Text) (t : Plain) → f (textKind src t) ≡ f (t .kind)
+  text-kind src t = go (eqb (t .kind) (code Ident)) (eqb→eq (t .kind) (code Ident)) (wordKind (textOf (src .source) t)) (word-kind (textOf (src .source) t))
+    where
+      go : (b : Bool) → (T b → t .kind ≡ code Ident) → (k : ℕ) → f k ≡ f (code Ident) → f (elim b [ true ↦ k | false ↦ inEdition (src .edition) (t .kind) ]) ≡ f (t .kind)
       go true e k h = h ∙ ap f (sym (e tt))
-      go false e k h = refl
+      go false e k h = shr-kind (src .edition) (t .kind)
 
   sharp-kind : (k : ℕ) (c : Bool) → f (elim (eqb k (code After) && c) [ true ↦ fine AfterSpan | false ↦ k ]) ≡ f k
   sharp-kind k c = go (eqb k (code After) && c) (λ t. eqb→eq k (code After) (both (eqb k (code After)) c t .0))
@@ -72,7 +84,7 @@ module _ {A : Type 0} (f : ℕ → A) (of-word : f (fine OfWord) ≡ f (code Ide
       go true e = after-span ∙ ap f (sym (e tt))
       go false e = refl
 
-  pub fine-kind : (src ws : List ℕ) (i : ℕ) → f (fineAt src ws i) ≡ f (kindAt ws i)
+  pub fine-kind : (src : Text) (ws : List ℕ) (i : ℕ) → f (fineAt src ws i) ≡ f (kindAt ws i)
   unfolding fineAt
   fine-kind src ws i = sharp-kind (textKind src (plainAt ws i)) (spanHere (classify src (suc i) (plainFrom ws (suc i)))) ∙ text-kind src (plainAt ws i)
 
@@ -82,7 +94,9 @@ same true b = b
 same false b = not b
 
 abbrev pub coarse : List ℕ → Bool
-coarse cs = same (has cs (fine OfWord)) (has cs (code Ident)) && (same (has cs (fine UnitWord)) (has cs (code Ident)) && same (has cs (fine AfterSpan)) (has cs (code After)))
+coarse cs =
+    same (has cs (fine OfWord)) (has cs (code Ident)) && (same (has cs (fine UnitWord)) (has cs (code Ident)) && (same (has cs (fine AfterSpan)) (has cs (code After))
+    && (same (has cs (fine TwoClosers)) (has cs (code Shr)) && not (has cs (fine OneCloser)))))
 
 same-eq : (a b : Bool) → T (same a b) → a ≡ b
 same-eq true true t = refl
@@ -90,13 +104,30 @@ same-eq true false t = absurd t
 same-eq false true t = absurd t
 same-eq false false t = refl
 
-pub same-set : (cs : List ℕ) → T (coarse cs) → (src ws : List ℕ) (i : ℕ) → has cs (fineAt src ws i) ≡ has cs (kindAt ws i)
+pub same-set : (cs : List ℕ) → T (coarse cs) → (src : Text) (ws : List ℕ) (i : ℕ) → has cs (fineAt src ws i) ≡ has cs (kindAt ws i)
 same-set cs h =
-    let l = both (same (has cs (fine OfWord)) (has cs (code Ident))) (same (has cs (fine UnitWord)) (has cs (code Ident)) && same (has cs (fine AfterSpan)) (has cs (code After))) h in
-    let m = both (same (has cs (fine UnitWord)) (has cs (code Ident))) (same (has cs (fine AfterSpan)) (has cs (code After))) (l .1) in
-    fine-kind (has cs) (same-eq (has cs (fine OfWord)) (has cs (code Ident)) (l .0)) (same-eq (has cs (fine UnitWord)) (has cs (code Ident)) (m .0)) (same-eq (has cs (fine AfterSpan)) (has cs (code After)) (m .1))
+    let l = both (same (has cs (fine OfWord)) (has cs (code Ident))) (same (has cs (fine UnitWord)) (has cs (code Ident)) && (same (has cs (fine AfterSpan)) (has cs (code After)) && (same (has cs (fine TwoClosers)) (has cs (code Shr)) && not (has cs (fine OneCloser))))) h in
+    let m = both (same (has cs (fine UnitWord)) (has cs (code Ident))) (same (has cs (fine AfterSpan)) (has cs (code After)) && (same (has cs (fine TwoClosers)) (has cs (code Shr)) && not (has cs (fine OneCloser)))) (l .1) in
+    let n = both (same (has cs (fine AfterSpan)) (has cs (code After))) (same (has cs (fine TwoClosers)) (has cs (code Shr)) && not (has cs (fine OneCloser))) (m .1) in
+    let o = both (same (has cs (fine TwoClosers)) (has cs (code Shr))) (not (has cs (fine OneCloser))) (n .1) in
+    fine-kind (has cs) (same-eq (has cs (fine OfWord)) (has cs (code Ident)) (l .0)) (same-eq (has cs (fine UnitWord)) (has cs (code Ident)) (m .0)) (same-eq (has cs (fine AfterSpan)) (has cs (code After)) (n .0)) (same-eq (has cs (fine TwoClosers)) (has cs (code Shr)) (o .0))
 
-module _ (cs : List ℕ) (h : T (coarse cs)) (src ws : List ℕ) (i : ℕ) where
+-- .. and such a set wants no half
+pub unhalved : (cs : List ℕ) → T (coarse cs) → T (not (has cs (fine OneCloser)))
+unhalved cs h =
+    let l = both (same (has cs (fine OfWord)) (has cs (code Ident))) (same (has cs (fine UnitWord)) (has cs (code Ident)) && (same (has cs (fine AfterSpan)) (has cs (code After)) && (same (has cs (fine TwoClosers)) (has cs (code Shr)) && not (has cs (fine OneCloser))))) h in
+    let m = both (same (has cs (fine UnitWord)) (has cs (code Ident))) (same (has cs (fine AfterSpan)) (has cs (code After)) && (same (has cs (fine TwoClosers)) (has cs (code Shr)) && not (has cs (fine OneCloser)))) (l .1) in
+    let n = both (same (has cs (fine AfterSpan)) (has cs (code After))) (same (has cs (fine TwoClosers)) (has cs (code Shr)) && not (has cs (fine OneCloser))) (m .1) in
+    both (same (has cs (fine TwoClosers)) (has cs (code Shr))) (not (has cs (fine OneCloser))) (n .1) .1
+
+pub unhalved-at : (cs : List ℕ) (t : Tok) → T (not (has cs (fine OneCloser))) → T (stays grammar cs t)
+unhalved-at cs t n = go (has cs (fine OneCloser)) (eqb (t .kind) (fine TwoClosers)) n
+  where
+    go : (a b : Bool) → T (not a) → T (not (a && b))
+    go true b n = absurd n
+    go false b n = tt
+
+module _ (cs : List ℕ) (h : T (coarse cs)) (src : Text) (ws : List ℕ) (i : ℕ) where
   pub fine-in : T (has cs (kindAt ws i)) → T (has cs (fineAt src ws i))
   fine-in t = subst T (sym (same-set cs h src ws i)) t
 
@@ -112,6 +143,8 @@ pub plain-low : (k : ℕ) → k ≤ code Eof → plainKind k ≡ k
 plain-low k h =
     no-elim (has (fine OfWord ∷ fine UnitWord ∷ []) k) _ _ (apart (fine OfWord ∷ fine UnitWord ∷ []) k (λ e. omega arith, (λ e. omega arith, tt)))
     ∙ no-elim (eqb k (fine AfterSpan)) _ _ (λ x. let e = eqb→eq k (fine AfterSpan) x in omega arith)
+    ∙ no-elim (eqb k (fine TwoClosers)) _ _ (λ x. let e = eqb→eq k (fine TwoClosers) x in omega arith)
+    ∙ no-elim (eqb k (fine OneCloser)) _ _ (λ x. let e = eqb→eq k (fine OneCloser) x in omega arith)
 
-pub plain-at : {ws : List ℕ} (src : List ℕ) (i : ℕ) → Closed ws → i < size ws → plainKind (fineAt src ws i) ≡ kindAt ws i
-plain-at {ws} src i c h = fine-kind plainKind refl refl refl src ws i ∙ plain-low (kindAt ws i) (c .known i h .1)
+pub plain-at : {ws : List ℕ} (src : Text) (i : ℕ) → Closed ws → i < size ws → plainKind (fineAt src ws i) ≡ kindAt ws i
+plain-at {ws} src i c h = fine-kind plainKind refl refl refl refl src ws i ∙ plain-low (kindAt ws i) (c .known i h .1)

@@ -8,6 +8,7 @@ use lib.ListN.{length}
 use Rattle.grammar.specs.Grammar.{Tok}
 use Rattle.grammar.specs.Records.{Acc, Row, Rec, put, none, count, span, records}
 use Rattle.grammar.specs.Fused.{Outcome, left}
+use Rattle.quanta_grammar.specs.Refine.{Text}
 use Rattle.quanta_cursor.specs.declared.parser.Node.{Node}
 use Rattle.quanta_cursor.specs.declared.parser.Nodes.{Nodes}
 use Rattle.quanta_cursor.specs.declared.parser.Refusal.{Refusal}
@@ -47,7 +48,7 @@ nodes-of {m} {m′} a b c =
     ∙ ap (λ (i : ℕ). nodes (m′ .at .0) (m′ .no .0) i) c
 
 -- the same tokens are left, so it is the same place
-same-place : (src ws : List ℕ) (i j : ℕ) → from src ws i ≡ from src ws j → i < size ws → j < size ws → i ≡ j
+same-place : (src : Text) (ws : List ℕ) (i j : ℕ) → from src ws i ≡ from src ws j → i < size ws → j < size ws → i ≡ j
 same-place src ws i j e h g = omega (arith, ap length e, from-length src ws i, from-length src ws j)
 
 -- the same row is laid, so there are as many records and the same words
@@ -59,7 +60,7 @@ module _ {t : List ℕ} {n : ℕ} {x y : Row} {t₁ t₂ : List ℕ} {n₁ n₂ 
   same-words : t₁ ≡ t₂
   same-words = a .words ∙ ap (λ (r : Row). lay t n (records r)) e ∙ sym (b .words)
 
-module _ {o : Outcome} {src ws t : List ℕ} {n : ℕ} {t₁ t₂ : List ℕ} where
+module _ {o : Outcome} {src : Text} {ws t : List ℕ} {n : ℕ} {t₁ t₂ : List ℕ} where
   both-took : {m m′ : Node} → Took o src ws t n m t₁ → Took o src ws t n m′ t₂ → (m ≡ m′) × (t₁ ≡ t₂)
   both-took {m} {m′} x y =
       let z = sym (x .gave) ∙ y .gave in
@@ -100,7 +101,7 @@ neither x y =
     let w : _≡_ {A = ℕ} 0 1 = cc in
     omega arith
 
-module _ (o : Outcome) (src ws t : List ℕ) (n : ℕ) (t₁ t₂ : List ℕ) where
+module _ (o : Outcome) (src : Text) (ws t : List ℕ) (n : ℕ) (t₁ t₂ : List ℕ) where
   agree-by : (r r′ : Parsed) → Answers o src ws t n r t₁ → Answers o src ws t n r′ t₂ → Agree r t₁ r′ t₂
   agree-by (parsed.Node m) (parsed.Node m′) x y =
       let z = both-took x y in
@@ -125,7 +126,7 @@ module _ (o : Outcome) (src ws t : List ℕ) (n : ℕ) (t₁ t₂ : List ℕ) wh
         words = λ k z. let w : _≡_ {A = ℕ} 0 1 = cc in absurd (omega arith);
       }
 
-module _ {o : Outcome} {src ws t : List ℕ} {n : ℕ} {t₁ t₂ : List ℕ} where
+module _ {o : Outcome} {src : Text} {ws t : List ℕ} {n : ℕ} {t₁ t₂ : List ℕ} where
   pub agree : {r r′ : Parsed} → Meets o src ws t n r t₁ → Meets o src ws t n r′ t₂ → Agree r t₁ r′ t₂
   agree {r} {r′} x y = agree-by o src ws t n t₁ t₂ r r′ (x .by) (y .by)
 

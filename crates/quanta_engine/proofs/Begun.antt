@@ -19,6 +19,7 @@ use Rattle.quanta_grammar.specs.NodeKind.{nodeCode, unary-node}
 use Rattle.quanta_grammar.specs.RefusalKind.{refusalCode, expected-token, expected-expression}
 use Rattle.quanta_grammar.specs.Productions.{outs, literal, prefixes, expr, unary, primary, suffixes}
 use Rattle.quanta_grammar.specs.Reading.{reads}
+use Rattle.quanta_grammar.specs.Refine.{Text}
 use Rattle.quanta_grammar.proofs.Steps.{go}
 use Rattle.quanta_cursor.specs.declared.parser.TokenPos.{TokenPos}
 use Rattle.quanta_cursor.specs.declared.parser.Span.{Span}
@@ -66,7 +67,7 @@ keyword-flagless : (w : Keyword) (k : ℕ) → 0 ≡ flagOf (outs .flags) (nodeC
 keyword-flagless checked k = refl
 keyword-flagless wrapping k = refl
 
-keyword-at : (w : Keyword) (src ws : List ℕ) (i a : ℕ) (h : i < size ws) → kindAt ws i ≡ keywordCode w
+keyword-at : (w : Keyword) (src : Text) (ws : List ℕ) (i a : ℕ) (h : i < size ws) → kindAt ws i ≡ keywordCode w
     → Wraps src ws i a h (keywordNode w)
 keyword-at checked src ws i a h e = at-checked src ws i a h e
 keyword-at wrapping src ws i a h e = at-wrapping src ws i a h e
@@ -177,7 +178,7 @@ module _ {ws : List ℕ} {e : Opening} {s : State} {tree : List ℕ} (r : s .ran
       (λ y r. ap (λ (u : Span). k (made′ src u y) r) (sym d))))
       z
     where
-      made′ : List ℕ → Span → Acc → Acc
+      made′ : Text → Span → Acc → Acc
       made′ src u y =
           made src ws (nodeCode unary-node) (framed prefixed (opening (s .node .at) u 0 0 0 0 0) none [] 0) y
 

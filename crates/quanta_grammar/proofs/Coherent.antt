@@ -7,6 +7,7 @@ use Prim.Native.Nat.{ℕ}
 use lib.Dec.{T, leb, eqb, eqb→eq}
 use Rattle.grammar.specs.Grammar.{Tok, next, Items, one, sub, has, node, Forest, end, leaf, down, yield, yields}
 use Rattle.grammar.proofs.Table.{both, and-intro, every, all-at, or-cases, or-false, implies, yes-not, same-place, everySymbol, atSymbol, everyRule, atRule}
+use Rattle.grammar.proofs.Halves.{spells-self}
 use Rattle.grammar.proofs.Complete as Complete
 use Rattle.quanta_token.specs.TokenKind.{code, Int, After}
 use Rattle.quanta_grammar.specs.FineKind.{fine, UnitWord, AfterSpan}
@@ -48,10 +49,17 @@ no-unit t (u ∷ ts) h = and-no′ (eqb (t .kind) (code Int)) (eqb (u .kind) (fi
 lacks : (cs : List ℕ) (k n : ℕ) → T (not (has cs k)) → T (has cs n) → T (eqb n k) → ⊥
 lacks cs k n h x e = yes-not (has cs k) h (rw (eqb→eq n k e) at x)
 
+-- the tests of Complete, at the kinds of Quanta
+abbrev ahead-of : (Symbol → List ℕ) → Items grammar → List ℕ → List ℕ
+ahead-of = Complete.ahead (grammar .pair) (grammar .half)
+
+abbrev good : List ℕ → Items grammar → Bool
+good = Complete.good (grammar .pair) (grammar .half) fronts follows
+
 -- no integer of an expression stands before a unit
 unfoldable paired : List ℕ → Items grammar → Bool
 paired F [] = true
-paired F (one c ∷ is) = (not (has c (code Int)) || not (has (Complete.ahead fronts is F) (fine UnitWord))) && paired F is
+paired F (one c ∷ is) = (not (has c (code Int)) || not (has (ahead-of fronts is F) (fine UnitWord))) && paired F is
 paired F (sub s ∷ is) = inExpr s && paired F is
 
 abbrev pairs : (s : Symbol) → Production s → Bool
@@ -68,16 +76,20 @@ apart-ok : T (everySymbol names apart)
 unfolding follows
 apart-ok = tt
 
-good-at : (s : Symbol) (p : Production s) → T (Complete.good fronts follows (follows s) (grammar .parts s p))
+good-at : (s : Symbol) (p : Production s) → T (good (follows s) (grammar .parts s p))
 good-at s p = Complete.fit grammar toll terms plan fronts follows names low ok s p .0
 
-opening : (F : List ℕ) {is : Items grammar} (f : Forest grammar is) (r : List Tok) → T (Complete.good fronts follows F is) → T (has F (next r)) → T (has (Complete.ahead fronts is F) (next (yields f ++ r)))
-opening = Complete.openings grammar toll terms plan fronts follows names low ok
+opening : (F : List ℕ) {is : Items grammar} (f : Forest grammar is) (r : List Tok) → T (good F is) → T (has F (next r)) → T (has (ahead-of fronts is F) (next (yields f ++ r)))
+opening F f r g h =
+    Complete.opening grammar toll terms plan fronts follows names low ok F f (spells-self (yields f) r) g h
 
-behind : (F : List ℕ) (s : Symbol) {is : Items grammar} (f : Forest grammar is) (r : List Tok) → T (Complete.good {S = Symbol} fronts follows F (sub s ∷ is)) → T (has F (next r)) → T (has (follows s) (next (yields f ++ r))) × T (Complete.good fronts follows F is)
+good-on : (F : List ℕ) (c : List ℕ) (is : Items grammar) → T (good F (one c ∷ is)) → T (good F is)
+good-on F c is g = both (not (has c (grammar .half) && has c (grammar .pair))) (good F is) g .1
+
+behind : (F : List ℕ) (s : Symbol) {is : Items grammar} (f : Forest grammar is) (r : List Tok) → T (good F (sub s ∷ is)) → T (has F (next r)) → T (has (follows s) (next (yields f ++ r))) × T (good F is)
 behind F s {is} f r g h =
-    let l = both (every (has (follows s)) (Complete.ahead fronts is F)) (Complete.good fronts follows F is) g in
-    (all-at (has (follows s)) (Complete.ahead fronts is F) (next (yields f ++ r)) (l .0) (opening F f r (l .1) h), l .1)
+    let l = both (every (has (follows s)) (ahead-of fronts is F)) (good F is) g in
+    (all-at (has (follows s)) (ahead-of fronts is F) (next (yields f ++ r)) (l .0) (opening F f r (l .1) h), l .1)
 
 mutual
   unfolding yield paired
@@ -87,13 +99,13 @@ mutual
       first-forest (follows s) f r (good-at s p) (implies (inExpr s) (paired (follows s) (grammar .parts s p)) (atRule names pairs pairs-ok s p) y) h
       (implies (inExpr s) (not (has (follows s) (code Int))) (atSymbol names apart apart-ok s) y)
 
-  first-forest : (F : List ℕ) {is : Items grammar} (f : Forest grammar is) (r : List Tok) → T (Complete.good fronts follows F is) → T (paired F is) → T (has F (next r)) → T (not (has F (code Int))) → T (not (spanHere (yields f ++ r)))
+  first-forest : (F : List ℕ) {is : Items grammar} (f : Forest grammar is) (r : List Tok) → T (good F is) → T (paired F is) → T (has F (next r)) → T (not (has F (code Int))) → T (not (spanHere (yields f ++ r)))
   first-forest F end r g q h n = no-int r (lacks F (code Int) (next r) n h)
   first-forest F (leaf {c = c} {is = is} t x f) r g q h n =
-      let l = both (not (has c (code Int)) || not (has (Complete.ahead fronts is F) (fine UnitWord))) (paired F is) q in
-      or-cases (not (has c (code Int))) (not (has (Complete.ahead fronts is F) (fine UnitWord))) (l .0)
+      let l = both (not (has c (code Int)) || not (has (ahead-of fronts is F) (fine UnitWord))) (paired F is) q in
+      or-cases (not (has c (code Int))) (not (has (ahead-of fronts is F) (fine UnitWord))) (l .0)
       (λ a. no-int (t ∷ (yields f ++ r)) (lacks c (code Int) (t .kind) a x))
-      (λ a. no-unit t (yields f ++ r) (lacks (Complete.ahead fronts is F) (fine UnitWord) (next (yields f ++ r)) a (opening F f r g h)))
+      (λ a. no-unit t (yields f ++ r) (lacks (ahead-of fronts is F) (fine UnitWord) (next (yields f ++ r)) a (opening F f r (good-on F c is g) h)))
   first-forest F (down {s = s} {is = is} d f) r g q h n =
       let l = both (inExpr s) (paired F is) q in
       rw append-assoc (first-tree d (yields f ++ r) (l .0) (behind F s f r g h .0))
@@ -131,7 +143,7 @@ spans (leaf x h f) r t = absurd t
 spans (down {s = s} d f) r t =
     rw append-assoc (subst (λ (s : Symbol). (d : Derivation s) (r : List Tok) → T (spanHere (yield d ++ r))) (sym (symbol-eq s duration t)) duration-span d (yields f ++ r))
 
-firsts : (F : List ℕ) {is : Items grammar} (f : Forest grammar is) (r : List Tok) → T (Complete.good fronts follows F is) → T (has F (next r)) → T (starts inExpr is) → T (not (spanHere (yields f ++ r)))
+firsts : (F : List ℕ) {is : Items grammar} (f : Forest grammar is) (r : List Tok) → T (good F is) → T (has F (next r)) → T (starts inExpr is) → T (not (spanHere (yields f ++ r)))
 unfolding yield
 firsts F end r g h t = absurd t
 firsts F (leaf x k f) r g h t = absurd t
@@ -143,16 +155,16 @@ mutual
   pub coherent : {s : Symbol} (d : Derivation s) (r : List Tok) → T (has (follows s) (next r)) → Coherent r → Coherent (yield d ++ r)
   coherent (node {s = s} p f) r h c = coherents (follows s) f r (good-at s p) (atRule names (λ s p. sharp (grammar .parts s p)) sharp-ok s p) h c
 
-  coherents : (F : List ℕ) {is : Items grammar} (f : Forest grammar is) (r : List Tok) → T (Complete.good fronts follows F is) → T (sharp is) → T (has F (next r)) → Coherent r → Coherent (yields f ++ r)
+  coherents : (F : List ℕ) {is : Items grammar} (f : Forest grammar is) (r : List Tok) → T (good F is) → T (sharp is) → T (has F (next r)) → Coherent r → Coherent (yields f ++ r)
   coherents F end r g q h c = c
   coherents F (leaf {c = k} {is = is} t x f) r g q h c =
       let l = both (not (has k (fine AfterSpan)) || starts isDuration is) ((not (has k (code After)) || starts inExpr is) && sharp is) q in
       let m = both (not (has k (code After)) || starts inExpr is) (sharp is) (l .1) in (
         (
           λ e. spans f r (or-cases (not (has k (fine AfterSpan))) (starts isDuration is) (l .0) (λ n. absurd (lacks k (fine AfterSpan) (t .kind) n x e)) (λ y. y)),
-          λ e. firsts F f r g h (or-cases (not (has k (code After))) (starts inExpr is) (m .0) (λ n. absurd (lacks k (code After) (t .kind) n x e)) (λ y. y)),
+          λ e. firsts F f r (good-on F k is g) h (or-cases (not (has k (code After))) (starts inExpr is) (m .0) (λ n. absurd (lacks k (code After) (t .kind) n x e)) (λ y. y)),
         ),
-        coherents F f r g (m .1) h c,
+        coherents F f r (good-on F k is g) (m .1) h c,
       )
   coherents F (down {s = s} d f) r g q h c =
       let o = behind F s f r g h in

@@ -9,20 +9,22 @@ use lib.Dec.{T, eqb, eqb→eq}
 use Rattle.grammar.specs.Grammar.{Tok, head, has, node, end, leaf, down, yield}
 use Rattle.grammar.specs.Facts.{Same, Grown}
 use Rattle.grammar.specs.Reader.{Refusal, bad, read}
-use Rattle.grammar.proofs.Table.{both, and-intro, or-cases, or-left}
+use Rattle.grammar.proofs.Table.{both, and-intro, or-cases, or-left, everyRule}
 use Rattle.grammar.proofs.Seeds.{bare}
+use Rattle.grammar.proofs.Halves.{single}
+use Rattle.grammar.proofs.Relabel.{relabels, relabels-append, kept, renew, renew-yield}
 use Rattle.grammar.proofs.Place as Place
 use Rattle.grammar.proofs.Swap.{cons, tops, tails}
 use Rattle.grammar.proofs.Swap as Swap
-use Rattle.quanta_token.specs.TokenKind.{code, Int, After}
-use Rattle.quanta_grammar.specs.FineKind.{fine, UnitWord, AfterSpan}
+use Rattle.quanta_token.specs.TokenKind.{code, Int, After, Gt, Shr}
+use Rattle.quanta_grammar.specs.FineKind.{fine, UnitWord, AfterSpan, TwoClosers, OneCloser}
 use Rattle.quanta_grammar.specs.Names.{symbolNo, names}
 use Rattle.quanta_grammar.specs.Productions.{Level, Symbol, grammar, Derivation, literal, operand, clause, expr, level}
 use Rattle.quanta_grammar.specs.Productions.{logic-or, logic-and, equality, comparison, shift, additive, multiplicative}
 use Rattle.quanta_grammar.specs.Productions.{after-expr, after-duration, no-from, int-unit, top, operands, link-end, no-prefix, chain, no-suffix, atom}
 use Rattle.quanta_grammar.specs.Reading.{toll, terms, plan, Call, parse}
 use Rattle.quanta_grammar.specs.Refine.{spanHere, sharpen, ahead, marking}
-use Rattle.quanta_grammar.specs.Complaint.{plain, blunt, blunts, Sentence, Complaint}
+use Rattle.quanta_grammar.specs.Complaint.{untold, plain, blunt, blunts, Sentence, Complaint}
 use Rattle.quanta_grammar.proofs.Tables.{fronts, follows, low, ok, grows}
 use Rattle.quanta_grammar.proofs.Calls.{ends}
 use Rattle.quanta_grammar.proofs.Coherent.{symbol-eq, coherent, unblunt}
@@ -31,7 +33,7 @@ use Rattle.quanta_grammar.proofs.Coherent.{symbol-eq, coherent, unblunt
 abbrev Stops : Symbol → ℕ → List Tok → Refusal → Type 0
 Stops s a ts e = Place.Stop grammar toll terms plan names low grows marking (λ n. n) (λ s d n. n) (Derivation s) (read grammar toll (bare grammar) plan s) (Grown grammar s) a ts e
 
-place : (s : Symbol) (a : ℕ) (ts : List Tok) (e : Refusal) → parse s a ts ≡ bad e → T (marking (e .number)) → Stops s a ts e
+place : (s : Symbol) (a : ℕ) (ts : List Tok) (e : Refusal) → parse s a ts ≡ bad e → T (single (grammar .pair) ts) → T (marking (e .number)) → Stops s a ts e
 place = Place.place grammar toll terms plan names low grows marking (λ n. n) (λ s d n. n)
 
 -- .. and no derivation spells those tokens, then the marked one, then any others
@@ -119,11 +121,49 @@ still-after t ts h = go (eqb (t .kind) (code After) && spanHere ts)
     go true = tt
     go false = or-left (eqb (t .kind) (code After)) _ h
 
+-- a plain token's kind is none of the three
+neither : (a b : Bool) → T (not (a || b)) → T (not a) × T (not b)
+neither true b n = absurd n
+neither false b n = (tt, n)
+
+told : (k : ℕ) → T (not (has untold k))
+    → T (not (eqb k (fine AfterSpan))) × T (not (eqb k (fine TwoClosers))) × T (not (eqb k (fine OneCloser)))
+told k n =
+    let l = neither (eqb k (fine AfterSpan)) (eqb k (fine TwoClosers) || (eqb k (fine OneCloser) || false)) n in
+    let m = neither (eqb k (fine TwoClosers)) (eqb k (fine OneCloser) || false) (l .1) in
+    (l .0, m .0, neither (eqb k (fine OneCloser)) false (m .1) .0)
+
+pub untold-no : (k : ℕ) → T (not (eqb k (fine AfterSpan))) → T (not (eqb k (fine TwoClosers)))
+    → T (not (eqb k (fine OneCloser))) → T (not (has untold k))
+untold-no k p q r = go (eqb k (fine AfterSpan)) (eqb k (fine TwoClosers)) (eqb k (fine OneCloser)) p q r
+  where
+    go : (a b c : Bool) → T (not a) → T (not b) → T (not c) → T (not (a || (b || (c || false))))
+    go true b c p q r = p
+    go false true c p q r = q
+    go false false true p q r = r
+    go false false false p q r = tt
+
+-- .. so none is two closers
+pub plain-single : (ts : List Tok) → T (plain ts) → T (single (fine TwoClosers) (ahead ts))
+plain-single [] h = tt
+plain-single (t ∷ ts) h =
+    let l = both (not (has untold (t .kind))) (plain ts) h in
+    and-intro (not (eqb (sharpen t ts .kind) (fine TwoClosers))) (single (fine TwoClosers) (ahead ts))
+    (go (eqb (t .kind) (code After) && spanHere ts) (told (t .kind) (l .0) .1)) (plain-single ts (l .1))
+  where
+    go : (b : Bool) → T (not (eqb (t .kind) (fine TwoClosers)))
+        → T (not (eqb (elim b as (λ z. ℕ) [ true ↦ fine AfterSpan | false ↦ t .kind ]) (fine TwoClosers)))
+    go true n = tt
+    go false n = n
+
 blunt-ahead : (ts : List Tok) → T (plain ts) → blunts (ahead ts) ≡ ts
 blunt-ahead [] h = refl
 blunt-ahead (t ∷ ts) h =
-    let l = both (not (eqb (t .kind) (fine AfterSpan))) (plain ts) h in
-    cons (with-kind t _ (go (eqb (t .kind) (code After) && spanHere ts) (λ x. eqb→eq (t .kind) (code After) (both (eqb (t .kind) (code After)) (spanHere ts) x .0)) (l .0))) (blunt-ahead ts (l .1))
+    let l = both (not (has untold (t .kind))) (plain ts) h in
+    let a = eqb (t .kind) (code After) in
+    let e = eqb→eq (t .kind) (code After) in
+    cons (with-kind t _ (go (a && spanHere ts) (λ x. e (both a (spanHere ts) x .0)) (told (t .kind) (l .0) .0)))
+    (blunt-ahead ts (l .1))
   where
     keep : (b : Bool) → T (not b) → elim b as (λ z. ℕ) [ true ↦ code After | false ↦ t .kind ] ≡ t .kind
     keep true n = absurd n
@@ -138,13 +178,64 @@ blunt-head : (ts : List Tok) → blunt (head ts) ≡ head (blunts ts)
 blunt-head [] = refl
 blunt-head (t ∷ ts) = refl
 
-plain-blunts : (ts : List Tok) → T (plain (blunts ts))
-plain-blunts [] = tt
-plain-blunts (t ∷ ts) = and-intro (not (eqb (blunt t .kind) (fine AfterSpan))) (plain (blunts ts)) (go (eqb (t .kind) (fine AfterSpan)) refl) (plain-blunts ts)
+-- the kinds of edition 1 for those of edition 2: the grammar has the one in each set that has the other
+abbrev coarse : ℕ → ℕ
+coarse k =
+    elim (eqb k (fine TwoClosers))
+    [ true ↦ code Shr | false ↦ elim (eqb k (fine OneCloser)) [ true ↦ code Gt | false ↦ k ] ]
+
+coarsely : T (everyRule names (λ s p. kept coarse (grammar .parts s p)))
+coarsely = tt
+
+coarse-same : (k : ℕ) → T (not (eqb k (fine TwoClosers))) → T (not (eqb k (fine OneCloser))) → coarse k ≡ k
+coarse-same k p q = go (eqb k (fine TwoClosers)) (eqb k (fine OneCloser)) p q
   where
-    go : (b : Bool) → eqb (t .kind) (fine AfterSpan) ≡ b → T (not (eqb (elim b [ true ↦ code After | false ↦ t .kind ]) (fine AfterSpan)))
+    go : (a b : Bool) → T (not a) → T (not b)
+        → elim a as (λ z. ℕ) [ true ↦ code Shr | false ↦ elim b as (λ z. ℕ) [ true ↦ code Gt | false ↦ k ] ] ≡ k
+    go true b p q = absurd p
+    go false true p q = absurd q
+    go false false p q = refl
+
+coarse-ahead : (ts : List Tok) → T (plain ts) → relabels coarse (ahead ts) ≡ ahead ts
+coarse-ahead [] h = refl
+coarse-ahead (t ∷ ts) h =
+    let l = both (not (has untold (t .kind))) (plain ts) h in
+    let m = told (t .kind) (l .0) in
+    let e = coarse-same (t .kind) (m .1) (m .2) in
+    cons (with-kind (sharpen t ts) _ (go (eqb (t .kind) (code After) && spanHere ts) e)) (coarse-ahead ts (l .1))
+  where
+    go : (b : Bool) → coarse (t .kind) ≡ t .kind
+        → let k = elim b as (λ z. ℕ) [ true ↦ fine AfterSpan | false ↦ t .kind ] in coarse k ≡ k
+    go true e = refl
+    go false e = e
+
+coarse-front : (b r : List Tok) → relabels coarse (b ++ r) ≡ b ++ r → relabels coarse b ≡ b
+coarse-front [] r e = refl
+coarse-front (x ∷ b) r e = cons (tops e) (coarse-front b r (tails e))
+
+-- .. so that a token is plain where it is of a kind of edition 1 and blunt
+plain-blunts : (ts : List Tok) → T (plain (blunts (relabels coarse ts)))
+plain-blunts [] = tt
+plain-blunts (t ∷ ts) =
+    let b = eqb (coarse (t .kind)) (fine AfterSpan) in
+    let k = elim b as (λ z. ℕ) [ true ↦ code After | false ↦ coarse (t .kind) ] in
+    and-intro (not (has untold k)) (plain (blunts (relabels coarse ts))) (go b refl) (plain-blunts ts)
+  where
+    by : Bool → Bool → ℕ
+    by a b = elim a [ true ↦ code Shr | false ↦ elim b [ true ↦ code Gt | false ↦ t .kind ] ]
+
+    closers : (a b : Bool) → eqb (t .kind) (fine TwoClosers) ≡ a → eqb (t .kind) (fine OneCloser) ≡ b
+        → T (not (eqb (by a b) (fine TwoClosers))) × T (not (eqb (by a b) (fine OneCloser)))
+    closers true b p q = (tt, tt)
+    closers false true p q = (tt, tt)
+    closers false false p q = (rw p tt, rw q tt)
+
+    go : (b : Bool) → eqb (coarse (t .kind)) (fine AfterSpan) ≡ b
+        → T (not (has untold (elim b as (λ z. ℕ) [ true ↦ code After | false ↦ coarse (t .kind) ])))
     go true e = tt
-    go false e = rw e tt
+    go false e =
+        let m = closers (eqb (t .kind) (fine TwoClosers)) (eqb (t .kind) (fine OneCloser)) refl refl in
+        untold-no (coarse (t .kind)) (rw e tt) (m .0) (m .1)
 
 data Last : List Tok → Type 0 where
   empty : Last []
@@ -219,23 +310,40 @@ module _ {s : Symbol} (c : Call s) (a : ℕ) (ts : List Tok) (e : Refusal) (pl :
       e′ : Refusal
       e′ = e
 
+  -- what goes on behind them, in kinds of edition 1
+  more : List Tok
+  more = relabels coarse (x .grown .more)
+
+  tree : Derivation s
+  tree = renew names coarse coarsely (x .grown .tree)
+
+  goes-on : yield tree ≡ x .before ++ more
+  unfolding tree more
+  goes-on =
+      let same = ap (relabels coarse) (x .cut) ∙ coarse-ahead ts pl ∙ sym (x .cut) in
+      renew-yield names coarse coarsely (x .grown .tree) ∙ ap (relabels coarse) (x .grown .spells)
+      ∙ relabels-append coarse (x .before) (x .grown .more)
+      ∙ ap (_++ relabels coarse (x .grown .more)) (coarse-front (x .before) (x .rest) same)
+
   found : Complaint s ts e
-  found =
-      let g = x .grown in
-      record {
-        before = blunts (x .before);
-        rest = blunts (x .rest);
-        cut = cuts (x .before) (x .rest) (x .cut);
-        marked = ap blunt (x .here) ∙ blunt-head (x .rest);
-        more = blunts (g .more);
-        real = plain-blunts (g .more);
-        begins = record {
-          tree = g .tree;
-          spells = sym (unblunt (yield (g .tree)) (rw append-nil at (coherent (g .tree) [] (ends c) tt))) ∙ ap (λ l. ahead (blunts l)) (g .spells) ∙ ap ahead (blunts-append (x .before) (g .more));
-        };
-        stops = λ others h. stop (x .rest) refl others;
-      }
+  unfolding more
+  found = record {
+    before = blunts (x .before);
+    rest = blunts (x .rest);
+    cut = cuts (x .before) (x .rest) (x .cut);
+    marked = ap blunt (x .here) ∙ blunt-head (x .rest);
+    more = blunts more;
+    real = plain-blunts (x .grown .more);
+    begins = record {
+      tree = tree;
+      spells =
+          sym (unblunt (yield tree) (rw append-nil at (coherent tree [] (ends c) tt)))
+          ∙ ap (λ l. ahead (blunts l)) goes-on ∙ ap ahead (blunts-append (x .before) more);
+    };
+    stops = λ others h. stop (x .rest) refl others;
+  }
 
 -- R-14: of each call, for the refusals 12 to 19 and 22
-pub complaint : {s : Symbol} → Call s → (a : ℕ) (ts : List Tok) → T (plain ts) → (e : Refusal) → parse s a (ahead ts) ≡ bad e → T (marking (e .number)) → Complaint s ts e
-complaint {s} c a ts pl e q l = found c a ts e pl (place s a (ahead ts) e q l)
+pub complaint : {s : Symbol} → Call s → (a : ℕ) (ts : List Tok) → T (plain ts) → (e : Refusal) → parse s a (ahead ts) ≡ bad e
+    → T (marking (e .number)) → Complaint s ts e
+complaint {s} c a ts pl e q l = found c a ts e pl (place s a (ahead ts) e q (plain-single ts pl) l)

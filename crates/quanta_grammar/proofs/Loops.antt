@@ -13,7 +13,7 @@ use Rattle.grammar.specs.Records.{Acc, Leaf, nothing, own, word, pass, fold, Re
 use Rattle.grammar.specs.Reader.{Refusal, use′, miss, refusal, spot}
 use Rattle.grammar.specs.Fused.{Outcome, left, refused}
 use Rattle.grammar.proofs.Fuse.{onward, onward-left, onward-onward, fits}
-use Rattle.grammar.proofs.Lines.{mark, cond-yes, cond-no, fit-yes, unminded}
+use Rattle.grammar.proofs.Lines.{mark, cond-yes, cond-no, fit-yes, unminded, stays, stay}
 use Rattle.grammar.proofs.Loops.{front, onward-same}
 use Rattle.grammar.proofs.Loops as Loops
 use Rattle.quanta_token.specs.TokenKind.{code, codes, Contract, Import, Comma, Dot, LParen}
@@ -61,7 +61,7 @@ module _ {l : Symbol} {goes : ℕ → Bool} {w : Toll} {turns : ℕ → List Tok
 pub turn-phrase : (t₀ : Tok) (y : Leaf) (r : Reach) (ss : List Step) (s : Symbol) (a : ℕ) (ts : List Tok) (x : Acc) → T (not (targets .minds s)) → go t₀ (mark y pass r ss ∷ []) (sub s ∷ []) a ts x ≡ onward (reads s a ts fresh) (λ z q. left (finish outs t₀ ss (beside r x z)) q)
 turn-phrase = Loops.turn-phrase grammar toll targets plan outs
 
-pub turn-both : (t₀ : Tok) (m : Mark) (y : Leaf) (r : Reach) (ss : List Step) (c : List ℕ) (s : Symbol) (a : ℕ) (t : Tok) (ts : List Tok) (x : Acc) → T (has c (t .kind)) → T (not (targets .minds s))
+pub turn-both : (t₀ : Tok) (m : Mark) (y : Leaf) (r : Reach) (ss : List Step) (c : List ℕ) (s : Symbol) (a : ℕ) (t : Tok) (ts : List Tok) (x : Acc) → T (stays grammar c t) → T (has c (t .kind)) → T (not (targets .minds s))
     → go t₀ (m ∷ mark y pass r ss ∷ []) (one c ∷ sub s ∷ []) a (t ∷ ts) x ≡ onward (reads s a ts fresh) (λ z q. left (finish outs t₀ ss (beside r (finish outs t₀ (m .steps) (leave outs (m .token) (m .reach) t x)) z)) q)
 turn-both = Loops.turn-both grammar toll targets plan outs
 
@@ -71,15 +71,17 @@ element s r a ts = turn-phrase (head ts) nothing r [] s a ts
 
 pub comma-element : (s : Symbol) (a : ℕ) (t : Tok) (ts : List Tok) (x : Acc) → T (has (code Comma ∷ []) (t .kind)) → T (not (targets .minds s))
     → go t (mark nothing pass apart [] ∷ mark nothing pass apart [] ∷ []) (one (code Comma ∷ []) ∷ sub s ∷ []) a (t ∷ ts) x ≡ onward (reads s a ts fresh) (λ y q. left (beside apart x y) q)
-comma-element s a t ts = turn-both t (mark nothing pass apart []) nothing apart [] (code Comma ∷ []) s a t ts
+comma-element s a t ts x = turn-both t (mark nothing pass apart []) nothing apart [] (code Comma ∷ []) s a t ts x tt
 
-pub comma-word : (c : List ℕ) (a : ℕ) (t u : Tok) (ts : List Tok) (x : Acc) → T (has (code Comma ∷ []) (t .kind)) → T (has c (u .kind))
+pub comma-word : (c : List ℕ) (a : ℕ) (t u : Tok) (ts : List Tok) (x : Acc) → T (stays grammar c u) → T (has (code Comma ∷ []) (t .kind)) → T (has c (u .kind))
     → go t (mark nothing pass apart [] ∷ mark word pass apart [] ∷ []) (one (code Comma ∷ []) ∷ one c ∷ []) a (t ∷ (u ∷ ts)) x ≡ left (leave outs word apart u x) ts
-comma-word c a t u ts x h k = cond-yes (has (code Comma ∷ []) (t .kind)) _ _ h ∙ cond-yes (has c (u .kind)) _ _ k
+comma-word c a t u ts x n h k =
+    cond-yes (has (code Comma ∷ []) (t .kind)) _ _ h ∙ stay grammar plan c u ts _ n ∙ cond-yes (has c (u .kind)) _ _ k
 
-pub comma-miss : (c : List ℕ) (a : ℕ) (t u : Tok) (ts : List Tok) (x : Acc) → T (has (code Comma ∷ []) (t .kind)) → (T (has c (u .kind)) → ⊥)
+pub comma-miss : (c : List ℕ) (a : ℕ) (t u : Tok) (ts : List Tok) (x : Acc) → T (stays grammar c u) → T (has (code Comma ∷ []) (t .kind)) → (T (has c (u .kind)) → ⊥)
     → go t (mark nothing pass apart [] ∷ mark word pass apart [] ∷ []) (one (code Comma ∷ []) ∷ one c ∷ []) a (t ∷ (u ∷ ts)) x ≡ refused (miss plan c (u ∷ ts))
-comma-miss c a t u ts x h k = cond-yes (has (code Comma ∷ []) (t .kind)) _ _ h ∙ cond-no (has c (u .kind)) _ _ k
+comma-miss c a t u ts x n h k =
+    cond-yes (has (code Comma ∷ []) (t .kind)) _ _ h ∙ stay grammar plan c u ts _ n ∙ cond-no (has c (u .kind)) _ _ k
 
 -- a loop by the tables: on while, or until, the next kind is one of ks
 module _ (l : Symbol) (p q : Production l) (w : Toll) (ks : List ℕ) (pays : toll l p ≡ w) (marked : outs .marks l p ≡ front (outs .marks l p) ++ (mark nothing fold apart [] ∷ [])) (parted : grammar .parts l p ≡ front (grammar .parts l p) ++ (sub l ∷ []))
@@ -91,14 +93,14 @@ module _ (l : Symbol) (p q : Production l) (w : Toll) (ks : List ℕ) (pays : to
   untils = Loops.until grammar toll targets plan outs (λ s d. refl) names low fused l p q w (front (outs .marks l p)) (front (grammar .parts l p)) pays marked parted even ends frees ks
 
 -- THE SEVEN LEVELS: an operand and the links behind it. What the tables say of each level, and then one law for all.
-tables : (v : Level) → (toll (level v) operands ≡ free) × (toll (links v) link ≡ behind) × (toll (links v) link-end ≡ free) × T (not (targets .minds (operand v)))
-tables logic-or = (refl, refl, refl, tt)
-tables logic-and = (refl, refl, refl, tt)
-tables equality = (refl, refl, refl, tt)
-tables comparison = (refl, refl, refl, tt)
-tables shift = (refl, refl, refl, tt)
-tables additive = (refl, refl, refl, tt)
-tables multiplicative = (refl, refl, refl, tt)
+tables : (v : Level) → (toll (level v) operands ≡ free) × (toll (links v) link ≡ behind) × (toll (links v) link-end ≡ free) × T (not (targets .minds (operand v))) × ((t : Tok) → T (stays grammar (operators v) t))
+tables logic-or = (refl, refl, refl, tt, λ t. tt)
+tables logic-and = (refl, refl, refl, tt, λ t. tt)
+tables equality = (refl, refl, refl, tt, λ t. tt)
+tables comparison = (refl, refl, refl, tt, λ t. tt)
+tables shift = (refl, refl, refl, tt, λ t. tt)
+tables additive = (refl, refl, refl, tt, λ t. tt)
+tables multiplicative = (refl, refl, refl, tt, λ t. tt)
 
 -- a left operand x and a right one y under the operator t
 abbrev pub linked : Acc → Tok → Acc → Acc
@@ -130,7 +132,7 @@ level-law v =
       stop = k .stop;
       deep = λ t ts x h. k .deep 0 (t ∷ ts) x h (omega arith);
       on = λ a t ts x h z. k .on a (t ∷ ts) x h z
-          ∙ ap (λ (o : Outcome). onward o (λ y r. reads (links v) (a - 1) r y)) (turn-both t (mark own pass apart []) nothing widens (make (nodeCode binary-node) ∷ []) (operators v) (operand v) (a - 1) t ts x h (l .3))
+          ∙ ap (λ (o : Outcome). onward o (λ y r. reads (links v) (a - 1) r y)) (turn-both t (mark own pass apart []) nothing widens (make (nodeCode binary-node) ∷ []) (operators v) (operand v) (a - 1) t ts x (l .4 t) h (l .3))
           ∙ onward-onward (reads (operand v) (a - 1) ts fresh) _ _;
     }
 

@@ -5,17 +5,17 @@ use mathlib.Core.Path.{_≡_, refl}
 use mathlib.Core.Bool.{not}
 use mathlib.Core.List.{List, [], _∷_}
 use Prim.Native.Nat.{ℕ, _-_, _<_, _≤_}
-use lib.Dec.{T}
+use lib.Dec.{T, eqb}
 use lib.ListN.{length}
-use Rattle.grammar.specs.Grammar.{Tok, head, next, Items, one, sub, has, free, fare}
+use Rattle.grammar.specs.Grammar.{Tok, head, next, Items, one, sub, has, free, fare, front, back}
 use Rattle.grammar.specs.Records.{Acc, Leaf, nothing, own, pass, fold, Reach, apart, widens, Step, make, Mark, fresh, leave, beside, finish}
 use Rattle.grammar.specs.Reader.{Refusal, bad, use′, refuse, pick, miss, refusal, spot}
 use Rattle.grammar.specs.Fused.{Outcome, left, refused}
-use Rattle.grammar.proofs.Sets.{solid}
+use Rattle.grammar.proofs.Sets.{solid, first}
 use Rattle.grammar.proofs.Fuse as Fuse
 use Rattle.grammar.proofs.Fuse.{fits, fuses}
 use Rattle.grammar.proofs.Lines as Lines
-use Rattle.grammar.proofs.Lines.{mark}
+use Rattle.grammar.proofs.Lines.{mark, stays}
 use Rattle.grammar.proofs.Progress as Progress
 use Rattle.quanta_token.specs.TokenKind.{code, Guard, Semi}
 use Rattle.quanta_grammar.specs.NodeKind.{nodeCode, guard-node}
@@ -28,6 +28,7 @@ use Rattle.quanta_grammar.proofs.Tables.{low, cheap}
 
 -- no phrase under the target rule is folded, and a production that takes its first token's span has a token
 pub fused : T (fuses grammar names outs targets)
+unfolding Fuse.fuses solid first
 fused = tt
 
 -- the parts of a production whose first token is t₀, one after the other
@@ -52,7 +53,7 @@ pub fails : (s : Symbol) (a : ℕ) (ts : List Tok) (x : Acc) (e : Refusal) → r
 fails = Fuse.fails grammar toll targets plan outs
 
 -- PROGRESS: what is taken stands at the front, and leaves no more records than it has tokens; of a solid symbol it is something (`solid names s` computes where `solid` unfolds).
-pub progress : (s : Symbol) (a : ℕ) (ts : List Tok) (x y : Acc) (r : List Tok) → reads s a ts x ≡ left y r → Progress.Progress ts x y r
+pub progress : (s : Symbol) (a : ℕ) (ts : List Tok) (x y : Acc) (r : List Tok) → reads s a ts x ≡ left y r → Progress.Progress grammar ts x y r
 progress = Progress.progress grammar toll targets plan outs names cheap
 
 pub some : (s : Symbol) (a : ℕ) (ts : List Tok) (x y : Acc) (r : List Tok) (e : reads s a ts x ≡ left y r) → T (solid names s) → 1 ≤ length (progress s a ts x y r e .taken)
@@ -71,11 +72,18 @@ begin-paying = Lines.begin-paying grammar toll targets plan outs (λ s d. refl) 
 
 module _ {o : Outcome} {t₀ : Tok} {ms : List Mark} {is : Items grammar} {a : ℕ} {x : Acc} where
   -- a token that is wanted, and one that is not
-  pub eat : {m : Mark} {c : List ℕ} {t : Tok} {ts : List Tok} → Doing o t₀ (m ∷ ms) (one c ∷ is) a (t ∷ ts) x → T (has c (t .kind)) → Doing o t₀ ms is a ts (finish outs t₀ (m .steps) (leave outs (m .token) (m .reach) t x))
-  eat d h = Lines.eat grammar toll targets plan outs d h
+  pub eat : {m : Mark} {c : List ℕ} {t : Tok} {ts : List Tok} → Doing o t₀ (m ∷ ms) (one c ∷ is) a (t ∷ ts) x → T (stays grammar c t) → T (has c (t .kind)) → Doing o t₀ ms is a ts (finish outs t₀ (m .steps) (leave outs (m .token) (m .reach) t x))
+  eat d n h = Lines.eat grammar toll targets plan outs d n h
 
-  pub lack : {c : List ℕ} {t : Tok} {ts : List Tok} → Doing o t₀ ms (one c ∷ is) a (t ∷ ts) x → (T (has c (t .kind)) → ⊥) → o ≡ refused (miss plan c (t ∷ ts))
-  lack d h = Lines.lack grammar toll targets plan outs d h
+  pub lack : {c : List ℕ} {t : Tok} {ts : List Tok} → Doing o t₀ ms (one c ∷ is) a (t ∷ ts) x → T (stays grammar c t) → (T (has c (t .kind)) → ⊥) → o ≡ refused (miss plan c (t ∷ ts))
+  lack d n h = Lines.lack grammar toll targets plan outs d n h
+
+  -- the first half of a pair, where a half is wanted
+  pub eat-half : {m : Mark} {c : List ℕ} {t : Tok} {ts : List Tok} → Doing o t₀ (m ∷ ms) (one c ∷ is) a (t ∷ ts) x
+      → T (has c (grammar .half)) → T (eqb (t .kind) (grammar .pair))
+      → Doing o t₀ ms is a (back (grammar .half) t ∷ ts)
+      (finish outs t₀ (m .steps) (leave outs (m .token) (m .reach) (front (grammar .half) t) x))
+  eat-half d n h = Lines.eat-half grammar toll targets plan outs d n h
 
   -- a phrase beside what is left: one that the target rule does not mind, and one under it
   module _ {l : Leaf} {r : Reach} {ss : List Step} {s : Symbol} {ts : List Tok} (d : Doing o t₀ (mark l pass r ss ∷ ms) (sub s ∷ is) a ts x) where
@@ -109,4 +117,4 @@ over d = Lines.over grammar toll targets plan outs d
 -- As an example, a statement read by its parts: `guard`, an expression, `;`.
 guard-read : (a : ℕ) (t u : Tok) (ts us : List Tok) (y : Acc) → t .kind ≡ code Guard → u .kind ≡ code Semi → reads expr a ts fresh ≡ left y (u ∷ us)
     → reads stmt a (t ∷ ts) fresh ≡ left (finish outs t (make (nodeCode guard-node) ∷ []) (leave outs nothing widens u (beside apart (leave outs own widens t fresh) y))) us
-guard-read a t u ts us y p q e = over (eat (bring (eat (begin stmt guard-stmt a (t ∷ ts) fresh (rw p refl) refl) (rw p tt)) tt e) (rw q tt))
+guard-read a t u ts us y p q e = over (eat (bring (eat (begin stmt guard-stmt a (t ∷ ts) fresh (rw p refl) refl) tt (rw p tt)) tt e) tt (rw q tt))

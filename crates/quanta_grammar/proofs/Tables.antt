@@ -11,7 +11,7 @@ use Rattle.grammar.proofs.Count.{thrifty}
 use Rattle.grammar.proofs.Spans.{Shape, steady}
 use Rattle.grammar.proofs.Shapes as Shapes
 use Rattle.grammar.proofs.Owns.{owned}
-use Rattle.grammar.proofs.OwnTokens.{keyedly}
+use Rattle.grammar.proofs.OwnTokens.{keyedly, unhalved}
 use Rattle.grammar.proofs.Seeds.{sprouts}
 use Rattle.quanta_grammar.specs.Productions.{Symbol, grammar, outs}
 use Rattle.quanta_grammar.specs.Names.{symbols, symbolNo, names}
@@ -68,6 +68,10 @@ owned-ok = tt
 pub rightly : T (keyedly grammar names outs ownKinds)
 unfolding keyedly pure
 rightly = tt
+
+-- .. so never a half
+pub whole-ok : T (unhalved (grammar .half) ownKinds)
+whole-ok = tt
 
 -- each symbol has a derivation
 pub grows : T (sprouts grammar names)

@@ -1,21 +1,26 @@
--- The place of a complaint (request R-14), over tokens whose kinds are told by text.
+-- The place of a complaint (request R-14) in edition 1, over tokens whose kinds are told by text.
 -- Assumes nothing.
 use mathlib.Core.Path.{_≡_}
 use mathlib.Core.Bool.{Bool, true, false, not, _&&_}
 use mathlib.Core.List.{List, [], _∷_, _++_}
+use Prim.Native.Nat.{ℕ}
 use lib.Dec.{T, eqb}
-use Rattle.grammar.specs.Grammar.{Tok, head, yield}
+use Rattle.grammar.specs.Grammar.{Tok, head, has, yield}
 use Rattle.grammar.specs.Facts.{Same}
 use Rattle.grammar.specs.Reader.{Refusal}
 use Rattle.quanta_token.specs.TokenKind.{code, After}
-use Rattle.quanta_grammar.specs.FineKind.{fine, AfterSpan}
+use Rattle.quanta_grammar.specs.FineKind.{fine, AfterSpan, TwoClosers, OneCloser}
 use Rattle.quanta_grammar.specs.Productions.{Symbol, Derivation}
 use Rattle.quanta_grammar.specs.Refine.{ahead}
 
--- tokens before `after` is told apart, and a token as it was then
+-- the finer kinds that a token's text does not tell in edition 1
+abbrev pub untold : List ℕ
+untold = fine AfterSpan ∷ fine TwoClosers ∷ fine OneCloser ∷ []
+
+-- tokens of edition 1 before `after` is told apart, and a token as it was then
 abbrev pub plain : List Tok → Bool
 plain [] = true
-plain (t ∷ ts) = not (eqb (t .kind) (fine AfterSpan)) && plain ts
+plain (t ∷ ts) = not (has untold (t .kind)) && plain ts
 
 abbrev pub blunt : Tok → Tok
 blunt t = record { place = t .place; kind = elim (eqb (t .kind) (fine AfterSpan)) [ true ↦ code After | false ↦ t .kind ]; start = t .start; stop = t .stop }

@@ -6,6 +6,7 @@ pub mod Guides
 pub mod Names
 pub mod Reading
 pub mod Refine
+pub mod Before
 pub mod Measuring
 pub mod OwnTokens
 pub mod Complaint

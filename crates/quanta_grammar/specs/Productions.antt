@@ -11,7 +11,7 @@ use Rattle.quanta_token.specs.TokenKind.{Sealed, Meta, Quorum, After, From, Min
 use Rattle.quanta_token.specs.TokenKind.{LBrace, RBrace, LParen, RParen, Comma, Semi, Colon, Dot, Eq, PlusEq, MinusEq, Plus, Minus, Star, Slash, Percent}
 use Rattle.quanta_token.specs.TokenKind.{Lt, Gt, Le, Ge, EqEq, Ne, Bang, AndAnd, OrOr, Shr}
 use Rattle.quanta_token.specs.TokenKind.{Eof}
-use Rattle.quanta_grammar.specs.FineKind.{fine, OfWord, UnitWord, AfterSpan}
+use Rattle.quanta_grammar.specs.FineKind.{fine, OfWord, UnitWord, AfterSpan, TwoClosers, OneCloser}
 use Rattle.quanta_grammar.specs.NodeKind.{NodeKind, nodeCode, Flag, flagCode, is-meta, has-default, is-sealed, is-signed, has-from, has-duration}
 use Rattle.quanta_grammar.specs.NodeKind.{program-node, import-node, contract-node, asset-node, state-node, genesis-node, invariant-node, event-node, entry-node, field-node}
 use Rattle.quanta_grammar.specs.NodeKind.{param-node, writes-node, reads-node, conserves-node, mints-node, burns-node, limits-node, denies-node, after-node, type-node}
@@ -97,6 +97,14 @@ unitWord = fine UnitWord ∷ []
 abbrev pub afterSpan : List ℕ
 afterSpan = fine AfterSpan ∷ []
 
+-- `>>`, in edition 1 and in edition 2
+abbrev pub shr : List ℕ
+shr = code Shr ∷ fine TwoClosers ∷ []
+
+-- what closes a type list: `>`, or one of the two closers that a `>>` of edition 2 counts as
+abbrev pub closer : List ℕ
+closer = code Gt ∷ fine OneCloser ∷ []
+
 abbrev pub typeName : List ℕ
 typeName = code Quorum ∷ name
 
@@ -115,7 +123,7 @@ operators logic-or = codes (OrOr ∷ [])
 operators logic-and = codes (AndAnd ∷ [])
 operators equality = codes (EqEq ∷ Ne ∷ [])
 operators comparison = codes (Lt ∷ Gt ∷ Le ∷ Ge ∷ [])
-operators shift = codes (Shr ∷ [])
+operators shift = shr
 operators additive = codes (Plus ∷ Minus ∷ [])
 operators multiplicative = codes (Star ∷ Slash ∷ Percent ∷ [])
 
@@ -138,6 +146,9 @@ tok k = token nothing (code k ∷ [])
 
 abbrev own : TokenKind → Part Symbol
 own k = token owns (code k ∷ [])
+
+abbrev tokOf : List ℕ → Part Symbol
+tokOf = token nothing
 
 abbrev word : TokenKind → Part Symbol
 word k = token words (code k ∷ [])
@@ -262,7 +273,7 @@ rule primary in-checked = wide (own Checked) ∷ tok LParen ∷ sub expr ∷ wid
 rule primary in-wrapping = wide (own Wrapping) ∷ tok LParen ∷ sub expr ∷ wide (tok RParen) ∷ make wrapping-node ∷ []
 -- types
 rule type type-name = wide (ownOf typeName) ∷ wide (sub typeArgs) ∷ make type-node ∷ []
-rule typeArgs type-args = tok Lt ∷ sub typeArg ∷ fold moreTypeArgs ∷ wide (tok Gt) ∷ []
+rule typeArgs type-args = tok Lt ∷ sub typeArg ∷ fold moreTypeArgs ∷ wide (tokOf closer) ∷ []
 rule typeArgs no-type-args = []
 rule typeArg int-arg = wide (word Int) ∷ fold ofInt ∷ []
 rule typeArg type-arg = wide (sub type) ∷ []
@@ -271,13 +282,24 @@ rule moreTypeArgs type-arg-end = []
 rule ofInt of-int = ownOf ofWord ∷ wide (word Int) ∷ make m-of-n-node ∷ []
 rule ofInt no-of = []
 
--- the grammar proper: the parts of each production, and nothing else of its line
+-- the grammar proper: of each production's line the parts alone; and a `>>` of edition 2 as the pair of two closers
 abbrev pub grammar : Grammar
-grammar = record { Symbol = Symbol; Rule = Production; parts = λ s p. itemsOf (rule s p) }
+grammar = record {
+  Symbol = Symbol;
+  Rule = Production;
+  parts = λ s p. itemsOf (rule s p);
+  pair = fine TwoClosers;
+  half = fine OneCloser;
+}
 
 -- a derivation: a tree of productions
 abbrev pub Derivation : Symbol → Type 0
 Derivation = Tree grammar
+
+-- a set for each of these kinds
+abbrev pub each : List ℕ → List (List ℕ)
+each [] = []
+each (k ∷ ks) = (k ∷ []) ∷ each ks
 
 -- what the parts leave; the record of a token that leaves one; the tokens that number a record's flag, in the order of `AssignOp`, `UnaryOp` and `BinOp`
 abbrev pub outs : Outs grammar
@@ -294,8 +316,8 @@ outs = record {
       (nodeCode now-node, codes (Now ∷ [])) ∷
       [];
   flags =
-      (nodeCode assign-node, assigns) ∷
-      (nodeCode unary-node, prefixes) ∷
-      (nodeCode binary-node, codes (OrOr ∷ AndAnd ∷ EqEq ∷ Ne ∷ Lt ∷ Gt ∷ Le ∷ Ge ∷ Plus ∷ Minus ∷ Star ∷ Slash ∷ Percent ∷ Shr ∷ [])) ∷
+      (nodeCode assign-node, each assigns) ∷
+      (nodeCode unary-node, each prefixes) ∷
+      (nodeCode binary-node, each (codes (OrOr ∷ AndAnd ∷ EqEq ∷ Ne ∷ Lt ∷ Gt ∷ Le ∷ Ge ∷ Plus ∷ Minus ∷ Star ∷ Slash ∷ Percent ∷ [])) ++ (shr ∷ [])) ∷
       [];
 }

@@ -1,4 +1,4 @@
--- From the lexer's tokens and the source to the grammar's tokens, and from the reader's answer back to the lexer's kinds.
+-- From the lexer's tokens, the edition and the source to the grammar's tokens, and from an answer to the lexer's kinds.
 -- Assumes nothing.
 use mathlib.Core.Path.{_≡_}
 use mathlib.Core.Bool.{Bool, true, false, not, _&&_, _||_}
@@ -13,8 +13,10 @@ use Rattle.grammar.specs.Facts.{Derives}
 use Rattle.grammar.specs.Reader.{Refusal, Res, got, bad}
 use Rattle.quanta_token.specs.Text.{bytes, same}
 use Rattle.quanta_token.specs.Token.{Token}
-use Rattle.quanta_token.specs.TokenKind.{code, Ident, Int, After, Eof}
-use Rattle.quanta_grammar.specs.FineKind.{fine, OfWord, UnitWord, AfterSpan}
+use Rattle.quanta_token.specs.TokenKind.{code, Ident, Int, After, Gt, Shr, Eof}
+use Rattle.quanta_token.specs.declared.edition.Edition.{Edition}
+use Rattle.quanta_token.specs.declared.edition.Edition.the-variants.{One, Two}
+use Rattle.quanta_grammar.specs.FineKind.{fine, OfWord, UnitWord, AfterSpan, TwoClosers, OneCloser}
 use Rattle.quanta_grammar.specs.RefusalKind.{refusalCode, expected-token, expected-contract-item, token-after-the-end}
 use Rattle.quanta_grammar.specs.Productions.{Symbol, Derivation, outs}
 use Rattle.quanta_grammar.specs.Reading.{toll, allowance, terms, parse}
@@ -22,6 +24,18 @@ use Rattle.quanta_grammar.specs.Reading.{toll, allowance, terms, parse}
 -- a token as the lexer gives it
 abbrev pub Plain : Type 0
 Plain = Token
+
+-- what tells the grammar's tokens apart beside the lexer's kinds: the edition of the reading rules, and the source
+pub record Text : Type 0 where
+  pub edition : Edition
+  pub source : List ℕ
+
+abbrev pub text : Edition → List ℕ → Text
+text e s = record { edition = e; source = s }
+
+-- one for laws that hold whatever the text is
+abbrev pub blank : Text
+blank = text One []
 
 -- whether a list of bytes is one of these texts
 abbrev pub spells : List String → List ℕ → Bool
@@ -38,15 +52,23 @@ units = "seconds" ∷ "minutes" ∷ "hours" ∷ "days" ∷ "weeks" ∷ "months" 
 abbrev pub wordKind : List ℕ → ℕ
 wordKind w = elim (spells of w) [ true ↦ fine OfWord | false ↦ elim (spells units w) [ true ↦ fine UnitWord | false ↦ code Ident ] ]
 
--- a token's bytes, and its kind by them
+-- a token's bytes
 abbrev pub textOf : List ℕ → Plain → List ℕ
 textOf src t = take (t .stop - t .start) (drop (t .start) src)
 
-abbrev pub textKind : List ℕ → Plain → ℕ
-textKind src t = elim (eqb (t .kind) (code Ident)) [ true ↦ wordKind (textOf src t) | false ↦ t .kind ]
+-- a kind in an edition: in edition 2 a `>>` counts as two closers where a type list must close
+abbrev pub inEdition : Edition → ℕ → ℕ
+inEdition One k = k
+inEdition Two k = elim (eqb k (code Shr)) [ true ↦ fine TwoClosers | false ↦ k ]
+
+-- a token's kind: an identifier's by its text, any other by the edition
+abbrev pub textKind : Text → Plain → ℕ
+textKind src t =
+    elim (eqb (t .kind) (code Ident))
+    [ true ↦ wordKind (textOf (src .source) t) | false ↦ inEdition (src .edition) (t .kind) ]
 
 -- the tokens counted from n on, with their kinds by text
-abbrev pub classify : List ℕ → ℕ → List Plain → List Tok
+abbrev pub classify : Text → ℕ → List Plain → List Tok
 classify src n [] = []
 classify src n (t ∷ ts) = record { place = n; kind = textKind src t; start = t .start; stop = t .stop } ∷ classify src (suc n) ts
 
@@ -65,7 +87,7 @@ ahead [] = []
 ahead (t ∷ ts) = sharpen t ts ∷ ahead ts
 
 -- the grammar's tokens
-abbrev pub refine : List ℕ → List Plain → List Tok
+abbrev pub refine : Text → List Plain → List Tok
 refine src ts = ahead (classify src 0 ts)
 
 -- the lexer's promise that the reader relies on: its own kinds, Eof at the end and only there; in order
@@ -84,7 +106,16 @@ Ordered lo hi (t ∷ ts) = (lo ≤ t .start) × (t .start ≤ t .stop) × Ordere
 
 -- a kind, and tokens, as the lexer has them
 abbrev pub plainKind : ℕ → ℕ
-plainKind k = elim (has (fine OfWord ∷ fine UnitWord ∷ []) k) [ true ↦ code Ident | false ↦ elim (eqb k (fine AfterSpan)) [ true ↦ code After | false ↦ k ] ]
+plainKind k = elim (has (fine OfWord ∷ fine UnitWord ∷ []) k) [
+  | true ↦ code Ident
+  | false ↦ elim (eqb k (fine AfterSpan)) [
+    | true ↦ code After
+    | false ↦ elim (eqb k (fine TwoClosers)) [
+      | true ↦ code Shr
+      | false ↦ elim (eqb k (fine OneCloser)) [ true ↦ code Gt | false ↦ k ]
+    ]
+  ]
+]
 
 abbrev pub plains : List Tok → List Plain
 plains [] = []
@@ -106,11 +137,11 @@ abbrev pub answerOf : {s : Symbol} → Res (Derivation s) → Answer
 answerOf (got d r) = accept (nodes outs d)
 answerOf (bad e) = reject (e .number) (e .at .start) (e .at .stop) (plainKind (e .wanted)) (found e)
 
-unfoldable pub answer : Symbol → List ℕ → List Plain → Answer
+unfoldable pub answer : Symbol → Text → List Plain → Answer
 answer s src ts = answerOf (parse s allowance (refine src ts))
 
 -- the records of a derivation of all the tokens, within the allowance and with lawful targets
-pub record Derived (s : Symbol) (src : List ℕ) (ts : List Plain) (rs : List Rec) : Type 0 where
+pub record Derived (s : Symbol) (src : Text) (ts : List Plain) (rs : List Rec) : Type 0 where
   pub tree : Derivation s
   pub derives : Derives toll terms allowance (refine src ts) tree
   pub same : nodes outs tree ≡ rs

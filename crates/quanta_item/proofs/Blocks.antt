@@ -37,9 +37,10 @@ use Rattle.quanta_item.specs.declared.decl.Body.{Body}
 use Rattle.quanta_item.specs.declared.decl.Blocked.{Blocked}
 use Rattle.quanta_item.specs.declared.decl.Blocked.the-variants as blocked
 use Rattle.quanta_item.specs.Blocks.{TookBlock, AnswersBlock, MeetsBlock, declSpan, declRec, declNode}
+use Rattle.quanta_grammar.specs.Refine.{Text}
 
 -- an answer that is made, and one that is taken apart
-module _ {o : Outcome} {src ws t : List ℕ} {n : ℕ} {t′ : List ℕ} where
+module _ {o : Outcome} {src : Text} {ws t : List ℕ} {n : ℕ} {t′ : List ℕ} where
   pub took-block : {r : Body} → TookBlock o src ws t n r t′ → MeetsBlock o src ws t n (blocked.Body r) t′
   took-block k = record { by = k }
 
@@ -56,20 +57,20 @@ module _ {o : Outcome} {src ws t : List ℕ} {n : ℕ} {t′ : List ℕ} where
 abbrev listOf : Body → Nodes
 listOf m = record { at = m .at; no = m .no; count = m .count }
 
-as-list : {o : Outcome} {src ws t : List ℕ} {n : ℕ} {m : Body} {t′ : List ℕ} → TookBlock o src ws t n m t′ → TookAll o src ws t n (listOf m) t′
+as-list : {o : Outcome} {src : Text} {ws t : List ℕ} {n : ℕ} {m : Body} {t′ : List ℕ} → TookBlock o src ws t n m t′ → TookAll o src ws t n (listOf m) t′
 as-list k = record { acc = k .acc; gave = k .gave; many = k .many; laid = k .laid; inside = k .inside }
 
-pub block-ready : (src : List ℕ) (a : ℕ) {ws : List ℕ} {i n : ℕ} {t : List ℕ} {m : Body} {t′ : List ℕ} → Ready ws i n → TookBlock (reads block a (from src ws i) fresh) src ws t n m t′ → Ready ws (m .at .0) (m .no .0)
+pub block-ready : (src : Text) (a : ℕ) {ws : List ℕ} {i n : ℕ} {t : List ℕ} {m : Body} {t′ : List ℕ} → Ready ws i n → TookBlock (reads block a (from src ws i) fresh) src ws t n m t′ → Ready ws (m .at .0) (m .no .0)
 block-ready src a g k = all-ready src block a g (as-list k)
 
-pub block-few : {o : Outcome} {src ws t : List ℕ} {n : ℕ} {m : Body} {t′ : List ℕ} → TookBlock o src ws t n m t′ → m .count + n ≤ m .no .0
+pub block-few : {o : Outcome} {src : Text} {ws t : List ℕ} {n : ℕ} {m : Body} {t′ : List ℕ} → TookBlock o src ws t n m t′ → m .count + n ≤ m .no .0
 block-few k = all-few (as-list k)
 
-pub block-count : {o : Outcome} {src ws t : List ℕ} {n : ℕ} {m : Body} {t′ : List ℕ} (row : Row) (k : TookBlock o src ws t n m t′) → count (glue row (k .acc .row)) ≡ m .count + count row
+pub block-count : {o : Outcome} {src : Text} {ws t : List ℕ} {n : ℕ} {m : Body} {t′ : List ℕ} (row : Row) (k : TookBlock o src ws t n m t′) → count (glue row (k .acc .row)) ≡ m .count + count row
 block-count row k = let x = k .many in omega (arith, count-glue row (k .acc .row))
 
 -- THE BLOCK: a brace, statements, a brace
-module _ (src ws : List ℕ) (a : ℕ) {i n : ℕ} (g : Ready ws i n) (t : List ℕ) {y : Expected} (v : Expects ws i (code LBrace) y) where
+module _ (src : Text) (ws : List ℕ) (a : ℕ) {i n : ℕ} (g : Ready ws i n) (t : List ℕ) {y : Expected} (v : Expects ws i (code LBrace) y) where
   begun : Under (reads block a (from src ws i) fresh) src ws (tokAt src ws i) (outs .marks block braces) (grammar .parts block braces) a i fresh t n t n
   begun = starts src ws block braces a g refl refl
 
@@ -115,10 +116,10 @@ module _ (src ws : List ℕ) (a : ℕ) {i n : ℕ} (g : Ready ws i n) (t : List 
               }
 
 -- A DECLARATION THAT ENDS WITH ITS BLOCK: its keyword is the token i, and the row is what it has left before the block
-abbrev pub keyed : List ℕ → List ℕ → ℕ → Row → Acc
+abbrev pub keyed : Text → List ℕ → ℕ → Row → Acc
 keyed src ws i row = record { row = row; reach = spanOf (tokAt src ws i); mine = tokAt src ws i; sum = 0 }
 
-module _ {o : Outcome} {src ws : List ℕ} {t₀ : Tok} {i a p : ℕ} {row : Row} {t : List ℕ} {n : ℕ} {tree : List ℕ} {q : ℕ} (kind : ℕ) (f : flagOf (outs .flags) kind (fineAt src ws i) + 0 ≡ 0)
+module _ {o : Outcome} {src : Text} {ws : List ℕ} {t₀ : Tok} {i a p : ℕ} {row : Row} {t : List ℕ} {n : ℕ} {tree : List ℕ} {q : ℕ} (kind : ℕ) (f : flagOf (outs .flags) kind (fineAt src ws i) + 0 ≡ 0)
     (u : Under o src ws t₀ (mark nothing pass widens (make kind ∷ []) ∷ []) (sub block ∷ []) a p (keyed src ws i row) t n tree q) where
   pub bodiless : {e : Refusal} → Failed (reads block a (from src ws p) fresh) e → Failed o e
   bodiless b = fails (u .doing) b

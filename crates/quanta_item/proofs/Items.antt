@@ -19,7 +19,7 @@ use Rattle.quanta_grammar.specs.RefusalKind.{refusalCode, expected-token, expec
 use Rattle.quanta_grammar.specs.Productions.{Symbol, Production, grammar, outs, name, item, expr, asset-decl, state-block, genesis-block, invariant-decl, event-decl, entry-decl}
 use Rattle.quanta_grammar.specs.Guides.{guide}
 use Rattle.quanta_grammar.specs.Reading.{targets, missed, wanted, reads}
-use Rattle.quanta_grammar.specs.Refine.{plainKind, marking}
+use Rattle.quanta_grammar.specs.Refine.{Text, plainKind, marking}
 use Rattle.quanta_cursor.specs.declared.parser.TokenPos.{TokenPos}
 use Rattle.quanta_cursor.specs.declared.parser.Node.{Node}
 use Rattle.quanta_cursor.specs.declared.parser.Nodes.{Nodes}
@@ -45,17 +45,17 @@ use Rattle.quanta_item.specs.Blocks.{TookBlock}
 use Rattle.quanta_item.proofs.Blocks.{block-few, block-count, keyed}
 
 -- an item at the token i with these parts left, and the row of what it has left so far; the production r when k of its parts are read
-abbrev Decl : List Mark → Items grammar → List ℕ → List ℕ → ℕ → ℕ → ℕ → Row → List ℕ → ℕ → List ℕ → ℕ → Type 0
+abbrev Decl : List Mark → Items grammar → Text → List ℕ → ℕ → ℕ → ℕ → Row → List ℕ → ℕ → List ℕ → ℕ → Type 0
 Decl ms is src ws i a p row t n tree q = Under (reads item a (from src ws i) fresh) src ws (tokAt src ws i) ms is a p (keyed src ws i row) t n tree q
 
-abbrev After : Production item → ℕ → List ℕ → List ℕ → ℕ → ℕ → ℕ → Row → List ℕ → ℕ → List ℕ → ℕ → Type 0
+abbrev After : Production item → ℕ → Text → List ℕ → ℕ → ℕ → ℕ → Row → List ℕ → ℕ → List ℕ → ℕ → Type 0
 After r k = Decl (drop k (outs .marks item r)) (drop k (grammar .parts item r))
 
 -- what the next kind picks; and where it is no item's keyword
-picked : (src ws : List ℕ) (i : ℕ) → pick (guide item) (fineAt src ws i) ≡ pick (guide item) (kindAt ws i)
-picked src ws i = fine-kind (pick (guide item)) refl refl refl src ws i
+picked : (src : Text) (ws : List ℕ) (i : ℕ) → pick (guide item) (fineAt src ws i) ≡ pick (guide item) (kindAt ws i)
+picked src ws i = fine-kind (pick (guide item)) refl refl refl refl src ws i
 
-picked-by : (src ws : List ℕ) (i c : ℕ) → kindAt ws i ≡ c → pick (guide item) (fineAt src ws i) ≡ pick (guide item) c
+picked-by : (src : Text) (ws : List ℕ) (i c : ℕ) → kindAt ws i ≡ c → pick (guide item) (fineAt src ws i) ≡ pick (guide item) c
 picked-by src ws i c w = picked src ws i ∙ ap (pick (guide item)) w
 
 passed : {R : Type 0} (c k : ℕ) (r : R) (ways : List (List ℕ × R)) (n : ℕ) → (k ≡ c → ⊥) → choose ways (refuse n) k ≡ refuse n → choose ((c ∷ [], r) ∷ ways) (refuse n) k ≡ refuse n
@@ -65,7 +65,7 @@ passed c k r ways n x z = choose-no (c ∷ []) r ways (refuse n) k (none-of (c �
 abbrev pub keywords : List ℕ
 keywords = code Asset ∷ code State ∷ code Genesis ∷ code Invariant ∷ code Event ∷ code Entry ∷ []
 
-pub no-item : (src ws : List ℕ) (a : ℕ) {i n : ℕ} {u : Refusal} → Ready ws i n → Apart keywords (kindAt ws i) → u ≡ errAt ws i (refusalCode expected-contract-item) 0 → Failed (reads item a (from src ws i) fresh) u
+pub no-item : (src : Text) (ws : List ℕ) (a : ℕ) {i n : ℕ} {u : Refusal} → Ready ws i n → Apart keywords (kindAt ws i) → u ≡ errAt ws i (refusalCode expected-contract-item) 0 → Failed (reads item a (from src ws i) fresh) u
 no-item src ws a {i} g (x₁, (x₂, (x₃, (x₄, (x₅, (x₆, x)))))) v =
     let k = kindAt ws i in
     let n = refusalCode expected-contract-item in
@@ -75,7 +75,7 @@ no-item src ws a {i} g (x₁, (x₂, (x₃, (x₄, (x₅, (x₆, x)))))) v =
     (passed (code Invariant) k invariant-decl (drop 4 ways) n x₄ (passed (code Event) k event-decl (drop 5 ways) n x₅ (passed (code Entry) k entry-decl [] n x₆ refl)))))) tt v
 
 -- THE KEYWORD
-module _ (src ws : List ℕ) (a : ℕ) {i n p : ℕ} (g : Ready ws i n) (e : p ≡ i + 1) (t : List ℕ) where
+module _ (src : Text) (ws : List ℕ) (a : ℕ) {i n p : ℕ} (g : Ready ws i n) (e : p ≡ i + 1) (t : List ℕ) where
   pub asset-key : kindAt ws i ≡ code Asset → After asset-decl 1 src ws i a p none t n t n
   asset-key w = owned (starts src ws item asset-decl a g (picked-by src ws i (code Asset) w) refl) tt (λ u. u) (is-one (code Asset) w) e
 
@@ -98,7 +98,7 @@ module _ (src ws : List ℕ) (a : ℕ) {i n p : ℕ} (g : Ready ws i n) (e : p �
 abbrev name-row : List ℕ → ℕ → Row
 name-row ws p = put none (leafRec ws p (nodeCode name-node)) none
 
-module _ {ms : List Mark} {is : Items grammar} {src ws : List ℕ} {i a p : ℕ} {t : List ℕ} {n : ℕ} (d : Decl (mark word pass apart [] ∷ ms) (one name ∷ is) src ws i a p none t n t n) {y : Parsed} {t₁ : List ℕ}
+module _ {ms : List Mark} {is : Items grammar} {src : Text} {ws : List ℕ} {i a p : ℕ} {t : List ℕ} {n : ℕ} (d : Decl (mark word pass apart [] ∷ ms) (one name ∷ is) src ws i a p none t n t n) {y : Parsed} {t₁ : List ℕ}
     (v : Words name (nodeCode name-node) (refusalCode expected-identifier) ws t p n y t₁) where
   pub unnamed : {u : Refusal} → y ≡ parsed.Refused u → Failed (reads item a (from src ws i) fresh) u
   unnamed z = unworded name (nodeCode name-node) d tt v tt (λ i. refl) z
@@ -111,7 +111,7 @@ module _ {ms : List Mark} {is : Items grammar} {src ws : List ℕ} {i a p : ℕ}
     name-few = let w = ap (λ (m : Node). m .no .0) (word-of z v .1) in omega arith
 
 -- .. an opening brace
-module _ {ms : List Mark} {is : Items grammar} {src ws : List ℕ} {i a p : ℕ} {t : List ℕ} {n : ℕ} (d : Decl (mark nothing pass apart [] ∷ ms) (one (code LBrace ∷ []) ∷ is) src ws i a p none t n t n) {y : Expected} (v : Expects ws p (code LBrace) y) where
+module _ {ms : List Mark} {is : Items grammar} {src : Text} {ws : List ℕ} {i a p : ℕ} {t : List ℕ} {n : ℕ} (d : Decl (mark nothing pass apart [] ∷ ms) (one (code LBrace ∷ []) ∷ is) src ws i a p none t n t n) {y : Expected} (v : Expects ws p (code LBrace) y) where
   pub unopened : {u : Refusal} → y ≡ expected.Refused u → Failed (reads item a (from src ws i) fresh) u
   unopened z = unexpected (code LBrace) d tt tt (λ i. refl) z v
 
@@ -119,7 +119,7 @@ module _ {ms : List Mark} {is : Items grammar} {src ws : List ℕ} {i a p : ℕ}
   opened z = expects (code LBrace) d tt (λ u. u) z v
 
 -- .. an expression
-module _ {ms : List Mark} {is : Items grammar} {src ws : List ℕ} {i a p : ℕ} {t : List ℕ} {n : ℕ} (d : Decl (mark nothing pass apart [] ∷ ms) (sub expr ∷ is) src ws i a p none t n t n) {y : Parsed} {t₁ : List ℕ} (v : Reads src expr ws p n a t y t₁) where
+module _ {ms : List Mark} {is : Items grammar} {src : Text} {ws : List ℕ} {i a p : ℕ} {t : List ℕ} {n : ℕ} (d : Decl (mark nothing pass apart [] ∷ ms) (sub expr ∷ is) src ws i a p none t n t n) {y : Parsed} {t₁ : List ℕ} (v : Reads src expr ws p n a t y t₁) where
   pub unsaid : {u : Refusal} → y ≡ parsed.Refused u → Failed (reads item a (from src ws i) fresh) u
   unsaid z = unphrased d (failed-of z v)
 
@@ -127,7 +127,7 @@ module _ {ms : List Mark} {is : Items grammar} {src ws : List ℕ} {i a p : ℕ}
   said z = phrased d tt (took-of z v)
 
 -- .. a list
-module _ {ms : List Mark} {is : Items grammar} {src ws : List ℕ} {i a p : ℕ} {row : Row} {t : List ℕ} {n : ℕ} {tree : List ℕ} {q : ℕ} (l : Symbol) (h : T (not (targets .minds l)))
+module _ {ms : List Mark} {is : Items grammar} {src : Text} {ws : List ℕ} {i a p : ℕ} {row : Row} {t : List ℕ} {n : ℕ} {tree : List ℕ} {q : ℕ} (l : Symbol) (h : T (not (targets .minds l)))
     (d : Decl (mark nothing pass apart [] ∷ ms) (sub l ∷ is) src ws i a p row t n tree q) {y : Listed} {tree₁ : List ℕ} (v : Lists src l ws p q a tree y tree₁) where
   pub unlisted : {u : Refusal} → y ≡ listed.Refused u → Failed (reads item a (from src ws i) fresh) u
   unlisted z = unphrased d (all-failed-of z v)
@@ -140,7 +140,7 @@ module _ {ms : List Mark} {is : Items grammar} {src ws : List ℕ} {i a p : ℕ}
     listed-count = let x = all-of z v .many in omega (arith, count-glue row (all-of z v .acc .row))
 
 -- THE CLOSING TOKEN, and the item's record
-pub shut : {src ws : List ℕ} {i a p : ℕ} {row : Row} {t : List ℕ} {n : ℕ} {tree : List ℕ} {q c : ℕ} {r : Parsed} {t′ : List ℕ} (kind want : ℕ) → flagOf (outs .flags) kind (fineAt src ws i) + 0 ≡ 0 → T (coarse (want ∷ [])) → (T (eqb want (code Eof)) → ⊥)
+pub shut : {src : Text} {ws : List ℕ} {i a p : ℕ} {row : Row} {t : List ℕ} {n : ℕ} {tree : List ℕ} {q c : ℕ} {r : Parsed} {t′ : List ℕ} (kind want : ℕ) → flagOf (outs .flags) kind (fineAt src ws i) + 0 ≡ 0 → T (coarse (want ∷ [])) → (T (eqb want (code Eof)) → ⊥)
     → T (marking (missed (want ∷ []))) → ((i : ℕ) → errAt ws i (refusalCode expected-token) want ≡ errAt ws i (missed (want ∷ [])) (plainKind (wanted (want ∷ []))))
     → Decl (mark nothing pass widens (make kind ∷ []) ∷ []) (one (want ∷ []) ∷ []) src ws i a p row t n tree q → count row ≡ c → Closes ws tree want p q kind 0 i (spanAt ws i) c r t′ → Meets (reads item a (from src ws i) fresh) src ws t n r t′
 shut {src} {ws} {i} {p = p} {row} kind want f b z k w d e c =
@@ -148,11 +148,11 @@ shut {src} {ws} {i} {p = p} {row} kind want f b z k w d e c =
     (ap (λ (f : ℕ). single (recOf kind f i (min (startAt ws i) (startAt ws p)) (max (stopAt ws i) (stopAt ws p)) (count row)) row (joined (spanAt ws i) (spanAt ws p))) f
     ∙ ap (λ (c : ℕ). single (closeRec ws p kind 0 i (spanAt ws i) c) row (joined (spanAt ws i) (spanAt ws p))) e) c
 
-pub semi-shut : {src ws : List ℕ} {i a p : ℕ} {row : Row} {t : List ℕ} {n : ℕ} {tree : List ℕ} {q c : ℕ} {r : Parsed} {t′ : List ℕ} (kind : ℕ) → flagOf (outs .flags) kind (fineAt src ws i) + 0 ≡ 0
+pub semi-shut : {src : Text} {ws : List ℕ} {i a p : ℕ} {row : Row} {t : List ℕ} {n : ℕ} {tree : List ℕ} {q c : ℕ} {r : Parsed} {t′ : List ℕ} (kind : ℕ) → flagOf (outs .flags) kind (fineAt src ws i) + 0 ≡ 0
     → Decl (mark nothing pass widens (make kind ∷ []) ∷ []) (one (code Semi ∷ []) ∷ []) src ws i a p row t n tree q → count row ≡ c → Closes ws tree (code Semi) p q kind 0 i (spanAt ws i) c r t′ → Meets (reads item a (from src ws i) fresh) src ws t n r t′
 semi-shut kind f d e c = shut kind (code Semi) f tt (λ u. u) tt (λ i. refl) d e c
 
-pub brace-shut : {src ws : List ℕ} {i a p : ℕ} {row : Row} {t : List ℕ} {n : ℕ} {tree : List ℕ} {q c : ℕ} {r : Parsed} {t′ : List ℕ} (kind : ℕ) → flagOf (outs .flags) kind (fineAt src ws i) + 0 ≡ 0
+pub brace-shut : {src : Text} {ws : List ℕ} {i a p : ℕ} {row : Row} {t : List ℕ} {n : ℕ} {tree : List ℕ} {q c : ℕ} {r : Parsed} {t′ : List ℕ} (kind : ℕ) → flagOf (outs .flags) kind (fineAt src ws i) + 0 ≡ 0
     → Decl (mark nothing pass widens (make kind ∷ []) ∷ []) (one (code RBrace ∷ []) ∷ []) src ws i a p row t n tree q → count row ≡ c → Closes ws tree (code RBrace) p q kind 0 i (spanAt ws i) c r t′ → Meets (reads item a (from src ws i) fresh) src ws t n r t′
 brace-shut kind f d e c = shut kind (code RBrace) f tt (λ u. u) tt (λ i. refl) d e c
 
@@ -160,7 +160,7 @@ brace-shut kind f d e c = shut kind (code RBrace) f tt (λ u. u) tt (λ i. refl)
 pub by-itself : {x c : ℕ} → x ≡ c + 0 → x ≡ c
 by-itself e = omega arith
 
-module _ {o : Outcome} {src ws t : List ℕ} {q : ℕ} {m : Nodes} {tree : List ℕ} (h : 0 < q) (k : TookAll o src ws t q m tree) where
+module _ {o : Outcome} {src : Text} {ws t : List ℕ} {q : ℕ} {m : Nodes} {tree : List ℕ} (h : 0 < q) (k : TookAll o src ws t q m tree) where
   pub two-small : {p : ℕ} → Ready ws p (m .no .0) → m .count + 1 < 4294967296
   two-small g = let x = all-few k in omega (arith, g .fits, g .inside, g .closed .few)
 

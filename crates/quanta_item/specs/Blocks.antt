@@ -16,10 +16,11 @@ use Rattle.quanta_cursor.specs.Cursor.{joined, spanAt}
 use Rattle.quanta_item.specs.declared.decl.Body.{Body}
 use Rattle.quanta_item.specs.declared.decl.Blocked.{Blocked}
 use Rattle.quanta_item.specs.declared.decl.Blocked.the-variants as blocked
+use Rattle.quanta_grammar.specs.Refine.{Text}
 
 -- the outcome is so many records side by side and this span, with the tokens from r's position on;
 -- they are laid over the words t from the record n on
-pub record TookBlock (o : Outcome) (src ws t : List ℕ) (n : ℕ) (r : Body) (t′ : List ℕ) : Type 0 where
+pub record TookBlock (o : Outcome) (src : Text) (ws t : List ℕ) (n : ℕ) (r : Body) (t′ : List ℕ) : Type 0 where
   pub acc : Acc
   pub gave : o ≡ left acc (from src ws (r .at .0))
   pub many : r .count ≡ count (acc .row)
@@ -27,15 +28,15 @@ pub record TookBlock (o : Outcome) (src ws t : List ℕ) (n : ℕ) (r : Body) (t
   pub laid : Laid t n (acc .row) t′ (r .no .0)
   pub inside : r .at .0 < size ws
 
-abbrev pub AnswersBlock : Outcome → List ℕ → List ℕ → List ℕ → ℕ → Blocked → List ℕ → Type 0
+abbrev pub AnswersBlock : Outcome → Text → List ℕ → List ℕ → ℕ → Blocked → List ℕ → Type 0
 AnswersBlock o src ws t n (blocked.Body r) t′ = TookBlock o src ws t n r t′
 AnswersBlock o src ws t n (blocked.Refused e) t′ = Failed o e
 
-pub record MeetsBlock (o : Outcome) (src ws t : List ℕ) (n : ℕ) (r : Blocked) (t′ : List ℕ) : Type 0 where
+pub record MeetsBlock (o : Outcome) (src : Text) (ws t : List ℕ) (n : ℕ) (r : Blocked) (t′ : List ℕ) : Type 0 where
   pub by : AnswersBlock o src ws t n r t′
 
 -- a block at the token i with the allowance a, over the words t from the record n on: the answer r, and the words t′
-abbrev pub Blocks : List ℕ → List ℕ → ℕ → ℕ → ℕ → List ℕ → Blocked → List ℕ → Type 0
+abbrev pub Blocks : Text → List ℕ → ℕ → ℕ → ℕ → List ℕ → Blocked → List ℕ → Type 0
 Blocks src ws i n a t r t′ = MeetsBlock (reads block a (from src ws i) fresh) src ws t n r t′
 
 -- a declaration from its keyword, the token own, up to its block b: its span, its record and its node

@@ -1,4 +1,5 @@
 pub mod AnswerLaws
+pub mod DayLaws
 pub mod PromiseLaws
 pub mod Readings
 pub mod ScanLaws
@@ -6,3 +7,5 @@ pub mod Theorems
 pub mod TokenizingLaws
 pub mod TokensLaws
 pub mod TriviaLaws
+pub mod YearLaws
+pub mod EditionLaws

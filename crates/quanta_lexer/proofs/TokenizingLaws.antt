@@ -1,6 +1,6 @@
 -- The laws of the whole reading: the places of the refusals 3 to 5, and the three answers.
 use Prim.Native.Nat.{ℕ, zero, suc, _+_, _-_, _*_, _/_, _≤_, _<_}
-use mathlib.Core.Path.{_≡_, refl, ap, sym, _∙_}
+use mathlib.Core.Path.{_≡_, refl, ap, _∙_}
 use mathlib.Core.Bool.{Bool, true, false, cond}
 use mathlib.Core.List.{List, [], _∷_, _++_, append-nil}
 use native.Mathlib.Omega.{arith}
@@ -8,6 +8,7 @@ use lib.ListN.{length, take, drop, replicate, length-drop, drop-of-length-le}
 use lib.Seq.{take-all}
 use lib.Dec.{ltb, eqb}
 use borrow.Author.Tests.{lt-ltb, le-ltb, ltb-true}
+use Rattle.quanta_token.specs.declared.edition.Edition.{Edition}
 use Rattle.utf8.specs.Utf8.{charLen, badFrom}
 use Rattle.utf8.specs.declared.Found.{Found}
 use Rattle.utf8.specs.declared.Found.the-variants.{At, AllWell}
@@ -15,9 +16,8 @@ use Rattle.quanta_source.specs.Source.{bareAt, barredAt, checkFrom, checked}
 use Rattle.quanta_source.specs.declared.source.Checked.{Checked}
 use Rattle.quanta_source.specs.declared.source.Checked.the-variants.{Clean, CarriageReturn, Barred}
 use Rattle.quanta_lexer.specs.Tokens.{Tok, Ending, done, refused, Lexing, records, put, readFor, readOf, lexAll}
-use Rattle.quanta_lexer.specs.Tokenizing.{reading, Written, tokenizing, filled, tokenWords}
+use Rattle.quanta_lexer.specs.Tokenizing.{reading, Written, tokenizing, tokenWords}
 use Rattle.quanta_lexer.proofs.TokensLaws.{length-put}
-use Rattle.quanta_lexer.specs.declared.lexer.Answer.{Answer}
 use Rattle.quanta_lexer.specs.declared.lexer.Answer.the-variants.{Accepted, Refused, Short}
 use Rattle.quanta_lexer.specs.declared.lexer.Read.{Read}
 use Rattle.quanta_lexer.specs.declared.lexer.Read.the-variants.{Tokens, Stopped}
@@ -82,7 +82,11 @@ pub barred-place : (s : List ℕ) (k : ℕ) → checked s ≡ Barred k → k < l
 barred-place s k h = let w : FaultWithin (length s + 0) (Barred k) = rw h at (checked-within s) in omega arith
 
 -- where tokens are counted their records are written
-pub written : (l : Lexing) (before after : List ℕ) (r : Read) → r ≡ readOf l → after ≡ put (l .toks) before → Written (l .toks) before after r
+pub written :
+    (l : Lexing) (before after : List ℕ) (r : Read) →
+    r ≡ readOf l →
+    after ≡ put (l .toks) before →
+    Written (l .toks) before after r
 unfolding readOf
 written l before after r e w = rw e (at (l .ending))
   where
@@ -90,7 +94,8 @@ written l before after r e w = rw e (at (l .ending))
     at done = (refl, w)
     at (refused k a b) = tt
 
-pub unwritten : (ts : List Tok) (before after : List ℕ) {r : Read} {k a b : ℕ} → r ≡ Stopped k a b → Written ts before after r
+pub unwritten :
+    (ts : List Tok) (before after : List ℕ) {r : Read} {k a b : ℕ} → r ≡ Stopped k a b → Written ts before after r
 unwritten ts before after e = rw e tt
 
 three : (n : ℕ) → 3 * suc n ≡ suc (suc (suc (3 * n)))
@@ -106,41 +111,48 @@ front (t ∷ ts) (x ∷ y ∷ []) h = absurd (omega arith)
 front (t ∷ ts) (x ∷ y ∷ z ∷ b) h =
     rw (three (length ts)) (ap (λ (l : List ℕ). t .kind ∷ t .start ∷ t .stop ∷ l) (front ts b (omega arith)))
 
-module _ (s t : List ℕ) (words : ℕ) (r : Read) (e : r ≡ reading s t) where
-  pub is-refused : (k a b : ℕ) → r ≡ Stopped k a b → Refused k a b ≡ tokenizing s t words
+module _ (ed : Edition) (s t : List ℕ) (words : ℕ) (r : Read) (e : r ≡ reading ed s t) where
+  pub is-refused : (k a b : ℕ) → r ≡ Stopped k a b → Refused k a b ≡ tokenizing ed s t words
   unfolding tokenizing
   is-refused k a b h = rw (← e, h)
 
-  pub is-short : (n : ℕ) → r ≡ Tokens n → words / 3 < n → Short n ≡ tokenizing s t words
+  pub is-short : (n : ℕ) → r ≡ Tokens n → words / 3 < n → Short n ≡ tokenizing ed s t words
   unfolding tokenizing
   is-short n h l = rw (← e, h, lt-ltb (words / 3) n l)
 
-  pub is-accepted : (n : ℕ) → r ≡ Tokens n → n ≤ words / 3 → Accepted n ≡ tokenizing s t words
+  pub is-accepted : (n : ℕ) → r ≡ Tokens n → n ≤ words / 3 → Accepted n ≡ tokenizing ed s t words
   unfolding tokenizing
   is-accepted n h l = rw (← e, h, le-ltb (words / 3) n l)
 
 -- the buffer after each answer, where it had so many words
 pub words-refused :
-    (s t : List ℕ) (words k a b : ℕ) {n : ℕ} → n ≡ words → Refused k a b ≡ tokenizing s t words → replicate n 0 ≡ tokenWords s t words
+    (ed : Edition) (s t : List ℕ) (words k a b : ℕ) {n : ℕ} →
+    n ≡ words →
+    Refused k a b ≡ tokenizing ed s t words →
+    replicate n 0 ≡ tokenWords ed s t words
 unfolding tokenWords
-words-refused s t words k a b e r = rw (← r, e)
+words-refused ed s t words k a b e r = rw (← r, e)
 
-pub words-short : (s t : List ℕ) (words k : ℕ) {n : ℕ} → n ≡ words → Short k ≡ tokenizing s t words → replicate n 0 ≡ tokenWords s t words
+pub words-short :
+    (ed : Edition) (s t : List ℕ) (words k : ℕ) {n : ℕ} →
+    n ≡ words →
+    Short k ≡ tokenizing ed s t words →
+    replicate n 0 ≡ tokenWords ed s t words
 unfolding tokenWords
-words-short s t words k e r = rw (← r, e)
+words-short ed s t words k e r = rw (← r, e)
 
-module _ (s t : List ℕ) (words n : ℕ) (b b′ z : List ℕ) where
+module _ (ed : Edition) (s t : List ℕ) (words n : ℕ) (b b′ z : List ℕ) where
   -- the records, and zeros in the place of what was behind them
   pub words-accepted :
       length b′ ≡ words →
       3 * n ≤ words →
-      (n ≡ length (lexAll s t .toks)) × (b′ ≡ put (lexAll s t .toks) b) →
+      (n ≡ length (lexAll ed s t .toks)) × (b′ ≡ put (lexAll ed s t .toks) b) →
       z ≡ replicate (length (take (length b′ - 3 * n) (drop (3 * n) b′))) 0 →
-      Accepted n ≡ tokenizing s t words →
-      take (3 * n) b′ ++ (z ++ drop (length b′ - 3 * n) (drop (3 * n) b′)) ≡ tokenWords s t words
+      Accepted n ≡ tokenizing ed s t words →
+      take (3 * n) b′ ++ (z ++ drop (length b′ - 3 * n) (drop (3 * n) b′)) ≡ tokenWords ed s t words
   unfolding tokenWords
   words-accepted l h w e r =
-      let ts = lexAll s t .toks in
+      let ts = lexAll ed s t .toks in
       let lb : length b′ ≡ length b = ap length (w .1) ∙ length-put ts b in
       let head : take (3 * n) b′ ≡ records ts = rw (w .1, w .0) (front ts b (omega (arith, w .0))) in
       let left : length (drop (3 * n) b′) ≤ length b′ - 3 * n = omega (arith, length-drop (3 * n) b′) in

@@ -1,6 +1,10 @@
+pub mod Dates
+pub mod Days
+pub mod FirstNoDay
 pub mod Promise
 pub mod Refusals
 pub mod Scan
 pub mod Tokenizing
 pub mod Tokens
 pub mod Trivia
+pub mod Years

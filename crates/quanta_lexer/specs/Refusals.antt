@@ -45,6 +45,10 @@ otherByte = 10
 abbrev pub noRoom : ℕ
 noRoom = 11
 
+-- a Date is no day, in edition 2
+abbrev pub noDay : ℕ
+noDay = 28
+
 abbrev pub sourceLimit : ℕ
 sourceLimit = 1048576
 

@@ -4,6 +4,8 @@ use mathlib.Core.Bool.{Bool, true, false, _&&_, not}
 use mathlib.Core.List.{List}
 use lib.ListN.{length, getD, take, drop}
 use lib.Dec.{eqb, ltb}
+use Rattle.quanta_token.specs.declared.edition.Edition.{Edition}
+use Rattle.quanta_token.specs.declared.edition.Edition.the-variants.{One, Two}
 use Rattle.quanta_token.specs.Bytes.{digit, wordStart, goesOn}
 use Rattle.quanta_token.specs.Keywords.{wordKind}
 use Rattle.quanta_token.specs.Runs.{runEnd}
@@ -11,7 +13,8 @@ use Rattle.quanta_token.specs.Symbols.{noKind, pairKind, singleKind}
 use Rattle.quanta_token.specs.TokenKind.{code, Int, Date, Str}
 use Rattle.quanta_token.specs.declared.bytes.Run.the-variants.{Word, Number, Quoted}
 use Rattle.quanta_words.specs.Words.{heldIn}
-use Rattle.quanta_lexer.specs.Refusals.{barredWord, bareDate, leadingZero, openString, otherByte}
+use Rattle.quanta_lexer.specs.Days.{dayAt}
+use Rattle.quanta_lexer.specs.Refusals.{barredWord, bareDate, leadingZero, openString, otherByte, noDay}
 use Rattle.quanta_lexer.specs.declared.scan.BytePos.{BytePos}
 use Rattle.quanta_lexer.specs.declared.scan.Lexed.{Lexed}
 use Rattle.quanta_lexer.specs.declared.scan.Lexed.the-variants.{Token, End, Refused}
@@ -56,7 +59,8 @@ unfoldable pub numberAt : List ℕ → ℕ → Lexed
 numberAt s i =
     let e = runEnd (goesOn Number) s i in
     choose (dateAt s i) (Refused bareDate (pos i) (pos (i + 10)))
-    (choose (eqb (getD s i 0) 0x30 && ltb (i + 1) e) (Refused leadingZero (pos i) (pos e)) (Token (code Int) (pos i) (pos e)))
+    (choose (eqb (getD s i 0) 0x30 && ltb (i + 1) e) (Refused leadingZero (pos i) (pos e))
+    (Token (code Int) (pos i) (pos e)))
 
 -- a string, from quote to quote: refused if it is open at LF or the end
 unfoldable pub stringAt : List ℕ → ℕ → Lexed
@@ -64,22 +68,28 @@ stringAt s i =
     let e = runEnd (goesOn Quoted) s (i + 1) in
     choose (eqb (getD s e 0) 0x22) (Token (code Str) (pos i) (pos (e + 1))) (Refused openString (pos i) (pos e))
 
--- `@` before a date shape, a symbol of two bytes, a symbol of one, or a byte that starts nothing
-unfoldable pub symbolAt : List ℕ → ℕ → Lexed
-symbolAt s i =
+-- the date shape at i will do: any in edition 1, a day in edition 2
+abbrev pub dated : Edition → List ℕ → ℕ → Bool
+dated One s i = true
+dated Two s i = dayAt s i
+
+-- `@` before a date shape, refused if that will not do; a symbol of two bytes, of one; or a byte that starts nothing
+unfoldable pub symbolAt : Edition → List ℕ → ℕ → Lexed
+symbolAt ed s i =
     let two = pairKind (getD s i 0) (getD s (i + 1) 0) in
     let one = singleKind (getD s i 0) in
-    choose (eqb (getD s i 0) 0x40 && dateAt s (i + 1)) (Token (code Date) (pos i) (pos (i + 11)))
+    choose (eqb (getD s i 0) 0x40 && dateAt s (i + 1))
+    (choose (dated ed s (i + 1)) (Token (code Date) (pos i) (pos (i + 11))) (Refused noDay (pos i) (pos (i + 11))))
     (choose (not (eqb two noKind)) (Token two (pos i) (pos (i + 2)))
     (choose (not (eqb one noKind)) (Token one (pos i) (pos (i + 1)))
     (Refused otherByte (pos i) (pos (i + 1)))))
 
 -- what stands at i
-unfoldable pub tokenAt : List ℕ → List ℕ → ℕ → Lexed
-tokenAt s t i =
+unfoldable pub tokenAt : Edition → List ℕ → List ℕ → ℕ → Lexed
+tokenAt ed s t i =
     choose (ltb i (length s))
     (choose (wordStart (getD s i 0)) (wordAt s t i)
     (choose (digit (getD s i 0)) (numberAt s i)
     (choose (eqb (getD s i 0) 0x22) (stringAt s i)
-    (symbolAt s i))))
+    (symbolAt ed s i))))
     End

@@ -1,10 +1,11 @@
 -- A source as its tokens, and tokens as records in a buffer.
 use Prim.Native.Nat.{ℕ, zero, suc, _+_, _*_}
-use mathlib.Core.Bool.{Bool, true, false, cond}
+use mathlib.Core.Bool.{cond}
 use mathlib.Core.List.{List, [], _∷_}
 use mathlib.Core.Path.{_≡_}
 use lib.ListN.{length, set}
 use lib.Dec.{leb}
+use Rattle.quanta_token.specs.declared.edition.Edition.{Edition}
 use Rattle.quanta_token.specs.Token.{Token as TokenOf}
 use Rattle.quanta_token.specs.TokenKind.{code, Eof}
 use Rattle.quanta_lexer.specs.Scan.{tokenAt}
@@ -37,13 +38,13 @@ goOn rest i End = record { toks = tok (code Eof) i i ∷ []; ending = done }
 goOn rest i (Refused n a e) = record { toks = []; ending = refused n (a .0) (e .0) }
 
 -- the tokens from i on, at most n; the bound is never met, since a source has no more tokens than bytes and one
-unfoldable pub lexFrom : ℕ → List ℕ → List ℕ → ℕ → Lexing
-lexFrom zero s t i = record { toks = []; ending = refused 0 i i }
-lexFrom (suc n) s t i = goOn (λ e. lexFrom n s t e) (triviaEnd s i) (tokenAt s t (triviaEnd s i))
+unfoldable pub lexFrom : Edition → ℕ → List ℕ → List ℕ → ℕ → Lexing
+lexFrom ed zero s t i = record { toks = []; ending = refused 0 i i }
+lexFrom ed (suc n) s t i = goOn (λ e. lexFrom ed n s t e) (triviaEnd s i) (tokenAt ed s t (triviaEnd s i))
 
 -- the tokens of a source s under a word table t, up to Eof or the first failing token
-unfoldable pub lexAll : List ℕ → List ℕ → Lexing
-lexAll s t = lexFrom (suc (length s)) s t 0
+unfoldable pub lexAll : Edition → List ℕ → List ℕ → Lexing
+lexAll ed s t = lexFrom ed (suc (length s)) s t 0
 
 -- the number of tokens, or the first refusal
 abbrev pub readFor : ℕ → Ending → Read
@@ -67,10 +68,12 @@ put (t ∷ ts) (x ∷ y ∷ []) = x ∷ y ∷ []
 put (t ∷ ts) (x ∷ y ∷ z ∷ b) = t .kind ∷ t .start ∷ t .stop ∷ put ts b
 
 -- what the reading of the tokens answers, and the buffer before and after it
-abbrev pub Ran : List ℕ → List ℕ → List ℕ → List ℕ → Read → Type 0
-Ran s t before after r = (r ≡ readOf (lexAll s t)) × (after ≡ put (lexAll s t .toks) before)
+abbrev pub Ran : Edition → List ℕ → List ℕ → List ℕ → List ℕ → Read → Type 0
+Ran ed s t before after r = (r ≡ readOf (lexAll ed s t)) × (after ≡ put (lexAll ed s t .toks) before)
 
 -- a buffer with one record more, after n, if it has room
 unfoldable pub store : ℕ → Tok → List ℕ → List ℕ
 store n t b =
-    cond (leb (3 * n + 3) (length b)) (set (set (set b (3 * n) (t .kind)) (3 * n + 1) (t .start)) (3 * n + 2) (t .stop)) b
+    cond (leb (3 * n + 3) (length b))
+    (set (set (set b (3 * n) (t .kind)) (3 * n + 1) (t .start)) (3 * n + 2) (t .stop))
+    b

@@ -16,6 +16,7 @@ use crate::scan::skip_trivia;
 use quanta_source::source::Checked;
 use quanta_source::source::check_source;
 use quanta_token::bytes::chart;
+use quanta_token::edition::Edition;
 use quanta_token::token::EOF;
 use quanta_words::index::index_words;
 use quanta_words::lookup::sift;
@@ -31,7 +32,7 @@ ghost use Rattle.quanta_lexer.specs.Refusals.{sourceLimit};
 ghost use Rattle.quanta_lexer.specs.Tokens.{tok, store, lexAll, Ran};
 ghost use Rattle.quanta_lexer.specs.Tokenizing.{reading, Written, tokenizing, tokenWords};
 
-// The number of tokens, or the first of the refusals 1 to 10.
+// The number of tokens, or the first of the refusals 1 to 10 and 28.
 pub enum Read {
     Tokens(usize),
     Stopped {
@@ -41,7 +42,7 @@ pub enum Read {
     },
 }
 
-// The whole answer: the number of tokens, a refusal 1 to 10, or 11 with the need.
+// The whole answer: the number of tokens, a refusal 1 to 10 or 28, or 11 with the need.
 pub enum Answer {
     Accepted(usize),
     Refused {
@@ -78,6 +79,7 @@ fn write_token(tokens: &mut [u32], n: usize, kind: u32, start: usize, end: usize
 
 // The tokens of a source, their records written as far as there is room; or the first failing token.
 fn run(
+    edition: Edition,
     chart: &[u8; 256],
     src: &[u8],
     words: &[u8],
@@ -86,14 +88,15 @@ fn run(
     tokens: &mut [u32],
 ) -> Read
     requires { ⌜ (length (now src) ≤ sourceLimit) × Chart (now chart) × Prepared (now words) (now seen) (now index) ⌝ }
-    ensures { λ r. ⌜ Ran (now (src .entry)) (now (words .entry)) (now (tokens .entry)) (now (tokens .exit)) r ⌝ }
+    ensures { λ r.
+        ⌜ Ran edition (now (src .entry)) (now (words .entry)) (now (tokens .entry)) (now (tokens .exit)) r ⌝ }
 {
     let mut n: usize = 0;
     let mut i: usize = 0;
     loop {
         let here = skip_trivia(chart, src, BytePos(i));
         let at = here.0;
-        match next_token(chart, src, words, seen, index, here) {
+        match next_token(edition, chart, src, words, seen, index, here) {
             Lexed::End => {
                 write_token(tokens, n, EOF, at, at);
                 let count = n + 1;
@@ -121,44 +124,62 @@ const SHORT_INDEX: usize = 2048;
 const LONG_INDEX: usize = 16384;
 
 // The tokens, with an index of the word table in the words lent for it.
-fn run_indexed(src: &[u8], words: &[u8], index: &mut [u16], tokens: &mut [u32]) -> Read
+fn run_indexed(
+    edition: Edition,
+    src: &[u8],
+    words: &[u8],
+    index: &mut [u16],
+    tokens: &mut [u32],
+) -> Read
     requires { ⌜ length (now src) ≤ sourceLimit ⌝ }
-    ensures { λ r. ⌜ Ran (now (src .entry)) (now (words .entry)) (now (tokens .entry)) (now (tokens .exit)) r ⌝ }
+    ensures { λ r.
+        ⌜ Ran edition (now (src .entry)) (now (words .entry)) (now (tokens .entry)) (now (tokens .exit)) r ⌝ }
 {
     let n = index_words(words, index);
-    run(&chart(), src, words, &sift(words), &index[..n], tokens)
+    run(
+        edition,
+        &chart(),
+        src,
+        words,
+        &sift(words),
+        &index[..n],
+        tokens,
+    )
 }
 
 // The tokens under a long table. The compiler keeps a function that calls itself out of its callers, so that the long
 // index is on the stack under long tables only; the turn more has no other use.
-fn run_long(src: &[u8], words: &[u8], tokens: &mut [u32], again: bool) -> Read
+fn run_long(edition: Edition, src: &[u8], words: &[u8], tokens: &mut [u32], again: bool) -> Read
     requires { ⌜ length (now src) ≤ sourceLimit ⌝ }
-    ensures { λ r. ⌜ Ran (now (src .entry)) (now (words .entry)) (now (tokens .entry)) (now (tokens .exit)) r ⌝ }
+    ensures { λ r.
+        ⌜ Ran edition (now (src .entry)) (now (words .entry)) (now (tokens .entry)) (now (tokens .exit)) r ⌝ }
 {
     if again {
-        return run_long(src, words, tokens, false);
+        return run_long(edition, src, words, tokens, false);
     }
     let mut index = [0u16; LONG_INDEX];
-    run_indexed(src, words, &mut index, tokens)
+    run_indexed(edition, src, words, &mut index, tokens)
 }
 
 // The tokens, with an index as long as the table asks for.
-fn run_by_size(src: &[u8], words: &[u8], tokens: &mut [u32]) -> Read
+fn run_by_size(edition: Edition, src: &[u8], words: &[u8], tokens: &mut [u32]) -> Read
     requires { ⌜ length (now src) ≤ sourceLimit ⌝ }
-    ensures { λ r. ⌜ Ran (now (src .entry)) (now (words .entry)) (now (tokens .entry)) (now (tokens .exit)) r ⌝ }
+    ensures { λ r.
+        ⌜ Ran edition (now (src .entry)) (now (words .entry)) (now (tokens .entry)) (now (tokens .exit)) r ⌝ }
 {
     if SHORT_TABLE < words.len() {
-        return run_long(src, words, tokens, src.len() == 0);
+        return run_long(edition, src, words, tokens, src.len() == 0);
     }
     let mut index = [0u16; SHORT_INDEX];
-    run_indexed(src, words, &mut index, tokens)
+    run_indexed(edition, src, words, &mut index, tokens)
 }
 
-// The refusals 1 to 10 in order of test, or the tokens.
-fn read_source(src: &[u8], words: &[u8], tokens: &mut [u32]) -> Read
+// The refusals 1 to 10 and 28 in order of test, or the tokens.
+fn read_source(edition: Edition, src: &[u8], words: &[u8], tokens: &mut [u32]) -> Read
     ensures { λ r.
-        ⌜ (r ≡ reading (now (src .entry)) (now (words .entry)))
-        × Written (lexAll (now (src .entry)) (now (words .entry)) .toks) (now (tokens .entry)) (now (tokens .exit)) r ⌝ }
+        ⌜ (r ≡ reading edition (now (src .entry)) (now (words .entry)))
+        × Written (lexAll edition (now (src .entry)) (now (words .entry)) .toks)
+        (now (tokens .entry)) (now (tokens .exit)) r ⌝ }
 {
     if TABLE_LIMIT < words.len() {
         return stopped(BAD_TABLE, TABLE_LIMIT, TABLE_LIMIT);
@@ -176,7 +197,7 @@ fn read_source(src: &[u8], words: &[u8], tokens: &mut [u32]) -> Read
     match check_source(src) {
         Checked::CarriageReturn(i) => stopped(BARE_RETURN, i, i + 1),
         Checked::Barred(i) => stopped(BARRED_CHARACTER, i, i + 1),
-        Checked::Clean => run_by_size(src, words, tokens),
+        Checked::Clean => run_by_size(edition, src, words, tokens),
     }
 }
 
@@ -191,13 +212,14 @@ fn clear(tokens: &mut [u32])
     }
 }
 
-// The whole reading of bytes into tokens: the answer, and every word of the buffer. Only what no record fills is made 0.
-pub fn tokenize(src: &[u8], words: &[u8], tokens: &mut [u32]) -> Answer
+// The whole reading of bytes into tokens: the answer and every word of the buffer. What no record fills is cleared.
+pub fn tokenize(edition: Edition, src: &[u8], words: &[u8], tokens: &mut [u32]) -> Answer
     ensures { λ r.
-        ⌜ (r ≡ tokenizing (now (src .entry)) (now (words .entry)) (length (now (tokens .entry))))
-        × (now (tokens .exit) ≡ tokenWords (now (src .entry)) (now (words .entry)) (length (now (tokens .entry)))) ⌝ }
+        ⌜ (r ≡ tokenizing edition (now (src .entry)) (now (words .entry)) (length (now (tokens .entry))))
+        × (now (tokens .exit) ≡
+        tokenWords edition (now (src .entry)) (now (words .entry)) (length (now (tokens .entry)))) ⌝ }
 {
-    match read_source(src, words, tokens) {
+    match read_source(edition, src, words, tokens) {
         Read::Stopped { number, start, end } => {
             clear(tokens);
             Answer::Refused {

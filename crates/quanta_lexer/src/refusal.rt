@@ -21,6 +21,8 @@ pub const OTHER_BYTE: u32 = 10;
 
 pub const NO_ROOM: u32 = 11;
 
+pub const NO_DAY: u32 = 28;
+
 pub const SOURCE_LIMIT: usize = 1048576;
 
 pub const TABLE_LIMIT: usize = 65536;

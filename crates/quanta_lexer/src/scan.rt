@@ -2,9 +2,11 @@
 // SPDX-License-Identifier: Apache-2.0 OR MIT
 
 // What stands at a place of the source.
+use crate::day::is_day;
 use crate::refusal::BARE_DATE;
 use crate::refusal::BARRED_WORD;
 use crate::refusal::LEADING_ZERO;
+use crate::refusal::NO_DAY;
 use crate::refusal::OPEN_STRING;
 use crate::refusal::OTHER_BYTE;
 use quanta_token::bytes::DIGIT;
@@ -14,6 +16,7 @@ use quanta_token::bytes::WORD_START;
 use quanta_token::bytes::class;
 use quanta_token::bytes::peek;
 use quanta_token::bytes::run_end;
+use quanta_token::edition::Edition;
 use quanta_token::keyword::keyword_kind;
 use quanta_token::symbol::NO_KIND;
 use quanta_token::symbol::pair_kind;
@@ -29,7 +32,7 @@ ghost use lib.Dec.{eqb};
 ghost use lib.ListN.{length, getD};
 ghost use Rattle.quanta_token.specs.Bytes.{digit, Chart};
 ghost use Rattle.quanta_words.specs.Lookup.{Prepared};
-ghost use Rattle.quanta_lexer.specs.Scan.{pos, wordAt, dateAt, numberAt, stringAt, symbolAt, tokenAt};
+ghost use Rattle.quanta_lexer.specs.Scan.{pos, wordAt, dateAt, numberAt, stringAt, dated, symbolAt, tokenAt};
 ghost use Rattle.quanta_lexer.specs.Trivia.{commentAt, triviaEnd};
 
 // A byte's offset in the source.
@@ -182,14 +185,28 @@ fn is_date_after(chart: &[u8; 256], src: &[u8], c: u8, start: usize) -> bool
     is_date_at(chart, src, start + 1)
 }
 
+// Whether the date shape at i will do: any in edition 1, a day in edition 2.
+fn is_dated(edition: Edition, src: &[u8], i: usize) -> bool
+    requires { ⌜ i + 10 ≤ length (now src) ⌝ }
+    ensures { λ r. ⌜ r ≡ dated edition (now (src .entry)) i ⌝ }
+{
+    match edition {
+        Edition::One => true,
+        Edition::Two => is_day(src, i),
+    }
+}
+
 // A date, a symbol of two bytes, a symbol of one, or another byte.
-fn scan_symbol(chart: &[u8; 256], src: &[u8], start: usize) -> Lexed
+fn scan_symbol(edition: Edition, chart: &[u8; 256], src: &[u8], start: usize) -> Lexed
     requires { ⌜ (start < length (now src)) × Chart (now chart) ⌝ }
-    ensures { λ r. ⌜ r ≡ symbolAt (now (src .entry)) start ⌝ }
+    ensures { λ r. ⌜ r ≡ symbolAt edition (now (src .entry)) start ⌝ }
 {
     let c = src[start];
     if is_date_after(chart, src, c, start) {
-        return token(DATE, start, start + 11);
+        if is_dated(edition, src, start + 1) {
+            return token(DATE, start, start + 11);
+        }
+        return refused(NO_DAY, start, start + 11);
     }
     let two = pair_kind(c, peek(src, start + 1));
     if two != NO_KIND {
@@ -204,6 +221,7 @@ fn scan_symbol(chart: &[u8; 256], src: &[u8], start: usize) -> Lexed
 
 // What stands at `at`, where no blank and no comment does.
 pub fn next_token(
+    edition: Edition,
     chart: &[u8; 256],
     src: &[u8],
     words: &[u8],
@@ -212,7 +230,7 @@ pub fn next_token(
     at: BytePos,
 ) -> Lexed
     requires { ⌜ Chart (now chart) × Prepared (now words) (now seen) (now index) ⌝ }
-    ensures { λ r. ⌜ r ≡ tokenAt (now (src .entry)) (now (words .entry)) (at .0) ⌝ }
+    ensures { λ r. ⌜ r ≡ tokenAt edition (now (src .entry)) (now (words .entry)) (at .0) ⌝ }
 {
     let start = at.0;
     if src.len() <= start {
@@ -228,5 +246,5 @@ pub fn next_token(
     if k == QUOTE {
         return scan_string(chart, src, start);
     }
-    scan_symbol(chart, src, start)
+    scan_symbol(edition, chart, src, start)
 }

@@ -1,9 +1,11 @@
-// The whole reading of bytes into tokens, for callers by C calling convention.
+// The whole reading of bytes into tokens, in edition 1, for callers by C calling convention.
 use quanta_lexer::lexer::Answer;
 use quanta_lexer::lexer::tokenize;
 use quanta_lexer::refusal::NO_ROOM;
+use quanta_token::edition::Edition;
 ghost use mathlib.Core.Path.{_≡_};
 ghost use lib.ListN.{length};
+ghost use Rattle.quanta_token.specs.declared.edition.Edition.the-variants.{One};
 ghost use Rattle.quanta_lexer.specs.Tokenizing.{tokenizing, tokenWords};
 ghost use Rattle.quanta_lexer_c.specs.Outcome.{outcomeOf};
 
@@ -20,10 +22,11 @@ pub struct Outcome {
 #[no_mangle]
 pub extern "C" fn quanta_tokenize(source: &[u8], words: &[u8], tokens: &mut [u32]) -> Outcome
     ensures { λ r.
-        ⌜ (r ≡ outcomeOf (tokenizing (now (source .entry)) (now (words .entry)) (length (now (tokens .entry)))))
-        × (now (tokens .exit) ≡ tokenWords (now (source .entry)) (now (words .entry)) (length (now (tokens .entry)))) ⌝ }
+        ⌜ (r ≡ outcomeOf (tokenizing One (now (source .entry)) (now (words .entry)) (length (now (tokens .entry)))))
+        × (now (tokens .exit) ≡
+        tokenWords One (now (source .entry)) (now (words .entry)) (length (now (tokens .entry)))) ⌝ }
 {
-    match tokenize(source, words, tokens) {
+    match tokenize(Edition::One, source, words, tokens) {
         Answer::Accepted(n) => Outcome {
             number: 0,
             start: 0,

@@ -1,20 +1,21 @@
 -- A field and its default: each way through their readers.
 -- Assumes nothing.
-use mathlib.Core.Path.{_≡_, refl, ap}
+use mathlib.Core.Path.{_≡_, refl, ap, _∙_}
 use mathlib.Core.List.{List, [], _∷_}
 use Prim.Native.Nat.{ℕ, _+_, _≤_}
 use native.Mathlib.Omega.{arith}
 use Rattle.grammar.specs.Grammar.{sub}
-use Rattle.grammar.specs.Records.{Acc, nothing, own, pass, apart, plus, fresh, leave, beside}
-use Rattle.grammar.specs.Reader.{use′}
+use Rattle.grammar.specs.Records.{Acc, Rec, nothing, own, pass, apart, widens, plus, start, make, fresh, leave, beside}
+use Rattle.grammar.specs.Reader.{use′, miss}
 use Rattle.grammar.specs.Fused.{left}
 use Rattle.grammar.proofs.Lines.{mark}
 use Rattle.quanta_token.specs.TokenKind.{code, Colon, Meta, Eq, Semi}
 use Rattle.quanta_grammar.specs.NodeKind.{nodeCode, name-node, field-node, flagCode, is-meta, has-default}
-use Rattle.quanta_grammar.specs.RefusalKind.{refusalCode, expected-identifier}
+use Rattle.quanta_grammar.specs.RefusalKind.{refusalCode, expected-token, expected-identifier}
 use Rattle.quanta_grammar.specs.Productions.{outs, name, expr, type, field, metaOpt, default, field-decl, meta, no-meta, a-default, no-default}
-use Rattle.quanta_grammar.specs.Reading.{reads}
+use Rattle.quanta_grammar.specs.Reading.{plan, reads}
 use Rattle.quanta_cursor.specs.declared.parser.TokenPos.{TokenPos}
+use Rattle.quanta_cursor.specs.declared.parser.Span.{Span}
 use Rattle.quanta_cursor.specs.declared.parser.Node.{Node}
 use Rattle.quanta_cursor.specs.declared.parser.Refusal.{Refusal}
 use Rattle.quanta_cursor.specs.declared.parser.Parsed.{Parsed}
@@ -26,14 +27,19 @@ use Rattle.quanta_cursor.specs.Answers.{single, Failed, Took, Meets}
 use Rattle.quanta_cursor.specs.Cursor.{joined, spanAt, Expects, Words, closeRec, Closes}
 use Rattle.quanta_cursor.proofs.Sets.{is-one, not-one}
 use Rattle.quanta_cursor.proofs.Places.{past-as, took-ready, ready-past}
-use Rattle.quanta_cursor.proofs.Meeting.{took-of, failed-of}
 use Rattle.quanta_cursor.proofs.Doing.{Doing, picks, skips, begin, eat, bring, fails, over}
 use Rattle.quanta_cursor.proofs.Under.{starts, worded, worded-in, unworded, phrased, unphrased, closed-by}
+use Rattle.quanta_type.specs.declared.half.Typed.{Typed}
+use Rattle.quanta_type.specs.declared.half.Typed.the-variants as typed
+use Rattle.quanta_type.specs.Halves.{halfFrom, halfErr, MeetsType}
+use Rattle.quanta_type.proofs.Halves.{half-ready, bring-any, field-tail, semi-shown}
+use Rattle.quanta_type.proofs.Types.{typed-of, half-of, untyped-of}
 use Rattle.quanta_param.specs.declared.decl.Eaten.{Eaten}
 use Rattle.quanta_param.specs.declared.decl.Opted.{Opted}
 use Rattle.quanta_param.specs.declared.decl.Opted.the-variants as opted
 use Rattle.quanta_param.specs.Options.{Eats, added, TookOpt, Opts}
 use Rattle.quanta_param.proofs.Options.{After, expects-own, lacks-own, flagged, Keyword, eaten-few, eaten-in, opt-of, without, with-it, opt-bad}
+use Rattle.quanta_grammar.specs.Refine.{Text}
 
 -- `meta`
 meta-keyword : Keyword metaOpt (code Meta) (flagCode is-meta)
@@ -45,7 +51,7 @@ meta-keyword =
     }
 
 -- THE DEFAULT
-module _ (src ws : List ℕ) (a : ℕ) {i n : ℕ} (g : Ready ws i n) (x : Acc) where
+module _ (src : Text) (ws : List ℕ) (a : ℕ) {i n : ℕ} (g : Ready ws i n) (x : Acc) where
   pub default-missing : (kindAt ws i ≡ code Eq → ⊥) → reads default a (from src ws i) x ≡ left x (from src ws i)
   default-missing u = over (begin src ws i (g .inside) default no-default a x (skips (code Eq ∷ []) a-default [] (use′ no-default) tt src ws i (not-one (code Eq) u)) refl)
 
@@ -63,7 +69,8 @@ module _ (src ws : List ℕ) (a : ℕ) {i n : ℕ} (g : Ready ws i n) (x : Acc) 
     default-took k = record { top = k .top; below = k .below; gave = over (bring default-key tt (k .gave)); laid = k .laid; ready = took-ready src expr a default-past k }
 
 -- A FIELD
-module _ (src ws : List ℕ) (a : ℕ) {i n : ℕ} (g : Ready ws i n) {s : Eaten} (v₀ : Eats ws i (code Meta) (flagCode is-meta) s) (t : List ℕ) where
+module _ (src : Text) (ws : List ℕ) (a : ℕ) {i n : ℕ} (g : Ready ws i n) {s : Eaten}
+    (v₀ : Eats ws i (code Meta) (flagCode is-meta) s) (t : List ℕ) where
   field-meta : After field-decl 1 src ws i a (s .at .0) (flagged (s .flag) fresh) t n t n
   field-meta = eaten-in meta-keyword g v₀ (starts src ws field field-decl a g refl refl)
 
@@ -84,6 +91,10 @@ module _ (src ws : List ℕ) (a : ℕ) {i n : ℕ} (g : Ready ws i n) {s : Eaten
       pub named-ready : Ready ws (m .at .0) (m .no .0)
       named-ready = field-named .ready
 
+      -- its record, up to a `;` at p
+      abbrev fieldRec : ℕ → ℕ → ℕ → Rec
+      fieldRec p f c = closeRec ws p (nodeCode field-node) f (m .at .0) (spanAt ws i) c
+
       module _ {y₁ : Expected} (v₁ : Expects ws (m .at .0) (code Colon) y₁) where
         pub field-colonless : {u : Refusal} → y₁ ≡ expected.Refused u → Failed (reads field a (from src ws i) fresh) u
         field-colonless z₁ = lacks-own (code Colon) field-named tt v₁ tt (λ i. refl) z₁
@@ -98,18 +109,37 @@ module _ (src ws : List ℕ) (a : ℕ) {i n : ℕ} (g : Ready ws i n) {s : Eaten
           pub colon-ready : Ready ws (b .0) (m .no .0)
           colon-ready = field-colon .ready
 
-          module _ {y₂ : Parsed} {t₂ : List ℕ} (v₂ : Meets (reads type a (from src ws (b .0)) fresh) src ws t₁ (m .no .0) y₂ t₂) where
-            pub field-typeless : {u : Refusal} → y₂ ≡ parsed.Refused u → Failed (reads field a (from src ws i) fresh) u
-            field-typeless z₂ = unphrased field-colon (failed-of z₂ v₂)
+          module _ {y₂ : Typed} {t₂ : List ℕ}
+              (v₂ : MeetsType (reads type a (from src ws (b .0)) fresh) src ws t₁ (m .no .0) y₂ t₂) where
+            pub field-typeless : {u : Refusal} → y₂ ≡ typed.Refused u → Failed (reads field a (from src ws i) fresh) u
+            field-typeless z₂ = unphrased field-colon (untyped-of z₂ v₂)
 
-            module _ {d : Node} (z₂ : y₂ ≡ parsed.Node d) where
+            -- the first closer of a `>>` closed its type, and the second is no `;`
+            pub half-place : {d : Node} → y₂ ≡ typed.Half d → Ready ws (d .at .0) (d .no .0)
+            half-place z₂ = half-ready type a (half-of z₂ v₂) colon-ready
+
+            pub field-halved : {d : Node} {u : Refusal} → y₂ ≡ typed.Half d
+                → u ≡ halfErr ws (d .at .0) (refusalCode expected-token) (code Semi)
+                → Failed (reads field a (from src ws i) fresh) u
+            field-halved {d} z₂ e =
+                let k = half-of z₂ v₂ in
+                record {
+                  refusal = miss plan (code Semi ∷ []) (halfFrom src ws (d .at .0));
+                  gave = bring-any src ws (d .at .0) (field-colon .doing) tt (k .gave)
+                      ∙ field-tail src ws (d .at .0) (tokAt src ws i)
+                      (mark nothing pass widens (start ∷ make (nodeCode field-node) ∷ [])) a
+                      (beside apart colon (single (k .top) (k .below) (d .span)));
+                  says = e ∙ semi-shown src ws (d .at .0);
+                }
+
+            module _ {d : Node} (z₂ : y₂ ≡ typed.Node d) where
               k : Took (reads type a (from src ws (b .0)) fresh) src ws t₁ (m .no .0) d t₂
-              k = took-of z₂ v₂
+              k = typed-of z₂ v₂
 
-              abbrev typed : Acc
-              typed = beside apart colon (single (k .top) (k .below) (d .span))
+              abbrev known : Acc
+              known = beside apart colon (single (k .top) (k .below) (d .span))
 
-              field-typed : After field-decl 4 src ws i a (d .at .0) typed t n t₂ (d .no .0)
+              field-typed : After field-decl 4 src ws i a (d .at .0) known t n t₂ (d .no .0)
               field-typed = phrased field-colon tt k
 
               pub typed-ready : Ready ws (d .at .0) (d .no .0)
@@ -123,21 +153,25 @@ module _ (src ws : List ℕ) (a : ℕ) {i n : ℕ} (g : Ready ws i n) {s : Eaten
                 pub field-plain : {r : Parsed} {t₄ : List ℕ} → y₃ ≡ opted.Missing → Closes ws t₃ (code Semi) (d .at .0) (d .no .0) (nodeCode field-node) (s .flag) (m .at .0) (spanAt ws i) 2 r t₄
                     → Meets (reads field a (from src ws i) fresh) src ws t n r t₄
                 field-plain z₃ c =
-                    let f : 0 + (0 + s .flag) ≡ s .flag = omega arith in
+                    let e : 0 + (0 + s .flag) ≡ s .flag = omega arith in
+                    let u : Span = joined (spanAt ws i) (spanAt ws (d .at .0)) in
                     closed-by (spanAt ws i) (code Semi) tt (λ u. u) tt (λ i. refl) (without field-typed v₃ z₃)
-                    (ap (λ (f : ℕ). single (closeRec ws (d .at .0) (nodeCode field-node) f (m .at .0) (spanAt ws i) 2) (typed .row) (joined (spanAt ws i) (spanAt ws (d .at .0)))) f) c
+                    (ap (λ (f : ℕ). single (fieldRec (d .at .0) f 2) (known .row) u) e) c
 
                 -- .. or with its default before it
                 module _ {l : Node} (z₃ : y₃ ≡ opted.Node l) where
                   abbrev valued : Acc
-                  valued = let j = opt-of z₃ (v₃ typed) in added apart (flagCode has-default) typed (j .top) (j .below) (l .span)
+                  valued =
+                      let j = opt-of z₃ (v₃ known) in
+                      added apart (flagCode has-default) known (j .top) (j .below) (l .span)
 
                   pub default-ready : Ready ws (l .at .0) (l .no .0)
-                  default-ready = opt-of z₃ (v₃ typed) .ready
+                  default-ready = opt-of z₃ (v₃ known) .ready
 
                   pub field-valued : {f : ℕ} {r : Parsed} {t₄ : List ℕ} → f ≡ s .flag + 2 → Closes ws t₃ (code Semi) (l .at .0) (l .no .0) (nodeCode field-node) f (m .at .0) (spanAt ws i) 3 r t₄
                       → Meets (reads field a (from src ws i) fresh) src ws t n r t₄
                   field-valued {f} h c =
                       let e : 0 + (0 + s .flag + 2) ≡ f = omega arith in
+                      let u : Span = joined (spanAt ws i) (spanAt ws (l .at .0)) in
                       closed-by (spanAt ws i) (code Semi) tt (λ u. u) tt (λ i. refl) (with-it field-typed v₃ z₃)
-                      (ap (λ (f : ℕ). single (closeRec ws (l .at .0) (nodeCode field-node) f (m .at .0) (spanAt ws i) 3) (valued .row) (joined (spanAt ws i) (spanAt ws (l .at .0)))) e) c
+                      (ap (λ (f : ℕ). single (fieldRec (l .at .0) f 3) (valued .row) u) e) c

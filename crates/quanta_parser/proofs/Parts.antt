@@ -33,25 +33,26 @@ use Rattle.quanta_cursor.proofs.Meeting.{all-of, all-failed-of}
 use Rattle.quanta_cursor.proofs.Lists.{glue-none, count-glue}
 use Rattle.quanta_cursor.proofs.Listing.{on-of, on-failed-of}
 use Rattle.quanta_cursor.proofs.Under.{Under, starts, owned, expects, unexpected, worded, worded-in, unworded, listed-in, unlisted, unphrased, alled, closed-by}
+use Rattle.quanta_grammar.specs.Refine.{Text}
 
 -- the production r of s at the token i, when k of its parts are read
-abbrev After : {s : Symbol} → Production s → ℕ → List ℕ → List ℕ → ℕ → ℕ → ℕ → Acc → List ℕ → ℕ → List ℕ → ℕ → Type 0
+abbrev After : {s : Symbol} → Production s → ℕ → Text → List ℕ → ℕ → ℕ → ℕ → Acc → List ℕ → ℕ → List ℕ → ℕ → Type 0
 After {s} r k src ws i a p x t n tree q = Under (reads s a (from src ws i) fresh) src ws (tokAt src ws i) (drop k (outs .marks s r)) (drop k (grammar .parts s r)) a p x t n tree q
 
 -- what a production's keyword leaves
-abbrev keyed : List ℕ → List ℕ → ℕ → Acc
+abbrev keyed : Text → List ℕ → ℕ → Acc
 keyed src ws i = leave outs own widens (tokAt src ws i) fresh
 
 pub keyword-past : {ws : List ℕ} {i n p : ℕ} (c : ℕ) → (T (eqb c (code Eof)) → ⊥) → Ready ws i n → kindAt ws i ≡ c → p ≡ i + 1 → Ready ws p n
 keyword-past c z g w e = ready-past g (past-as c z (g .closed) (g .inside) w) e
 
 -- AN IMPORT
-pub on-few : {o : Outcome} {x : Acc} {src ws t : List ℕ} {n : ℕ} {r : Nodes} {t′ : List ℕ} → TookOn o x src ws t n r t′ → r .count + n ≤ r .no .0
+pub on-few : {o : Outcome} {x : Acc} {src : Text} {ws t : List ℕ} {n : ℕ} {r : Nodes} {t′ : List ℕ} → TookOn o x src ws t n r t′ → r .count + n ≤ r .no .0
 on-few {src = src} {ws} {t} {n} {r} {t′} k =
     all-few {o = left (record { row = k .row; reach = fresh .reach; mine = fresh .mine; sum = 0 }) (from src ws (r .at .0))} {src = src} {ws = ws} {t = t} {n = n} {r = r} {t′ = t′}
     (record { acc = record { row = k .row; reach = fresh .reach; mine = fresh .mine; sum = 0 }; gave = refl; many = k .many; laid = k .laid; inside = k .ready .inside })
 
-module _ (src ws : List ℕ) (a : ℕ) {i n : ℕ} (g : Ready ws i n) (w : kindAt ws i ≡ code Import) {p : ℕ} (e : p ≡ i + 1) (t : List ℕ) where
+module _ (src : Text) (ws : List ℕ) (a : ℕ) {i n : ℕ} (g : Ready ws i n) (w : kindAt ws i ≡ code Import) {p : ℕ} (e : p ≡ i + 1) (t : List ℕ) where
   import-key : After import-decl 1 src ws i a p (keyed src ws i) t n t n
   import-key = owned (starts src ws import import-decl a g refl refl) tt (λ u. u) (is-one (code Import) w) e
 
@@ -125,7 +126,7 @@ module _ (src ws : List ℕ) (a : ℕ) {i n : ℕ} (g : Ready ws i n) (w : kindA
                           (ap (λ (c : ℕ). single (closeRec ws (s .at .0) (nodeCode import-node) 0 i (spanAt ws i) c) (put (glue none (k .row)) (leafRec ws (f .0) (nodeCode str-node)) none) (joined (spanAt ws i) (spanAt ws (s .at .0)))) h) c
 
 -- A CONTRACT
-module _ (src ws : List ℕ) (a : ℕ) {i n : ℕ} (g : Ready ws i n) (w : kindAt ws i ≡ code Contract) {p : ℕ} (e : p ≡ i + 1) (t : List ℕ) where
+module _ (src : Text) (ws : List ℕ) (a : ℕ) {i n : ℕ} (g : Ready ws i n) (w : kindAt ws i ≡ code Contract) {p : ℕ} (e : p ≡ i + 1) (t : List ℕ) where
   contract-key : After contract-decl 1 src ws i a p (keyed src ws i) t n t n
   contract-key = owned (starts src ws contract contract-decl a g refl refl) tt (λ u. u) (is-one (code Contract) w) e
 

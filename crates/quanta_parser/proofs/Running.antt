@@ -32,6 +32,7 @@ use Rattle.quanta_parser.specs.declared.program.Run.{Run}
 use Rattle.quanta_parser.specs.declared.program.Ran.{Ran}
 use Rattle.quanta_parser.specs.declared.program.Ran.the-variants as ran
 use Rattle.quanta_parser.specs.Runs.{onto, lastOr, TookRun, AnswersRun, MeetsRun}
+use Rattle.quanta_grammar.specs.Refine.{Text}
 
 -- A LIST'S LAW: elements one after the other while the next token is k, each of which takes the place of the span so far
 pub record Law (l elem : Symbol) (k : ℕ) : Type 0 where
@@ -57,7 +58,7 @@ pub contracts-law : Law contracts contract (code Contract)
 contracts-law = law-by contracts contract (code Contract) tt tt contracts-loop
 
 -- an answer that is taken apart
-module _ {o : Outcome} {x : Acc} {src ws t : List ℕ} {n : ℕ} {s : Span} {r : Ran} {t′ : List ℕ} where
+module _ {o : Outcome} {x : Acc} {src : Text} {ws t : List ℕ} {n : ℕ} {s : Span} {r : Ran} {t′ : List ℕ} where
   pub run-of : {m : Run} → r ≡ ran.Run m → MeetsRun o x src ws t n s r t′ → TookRun o x src ws t n s m t′
   run-of z m = subst (λ (r : Ran). AnswersRun o x src ws t n s r t′) z (m .by)
 
@@ -65,7 +66,7 @@ module _ {o : Outcome} {x : Acc} {src ws t : List ℕ} {n : ℕ} {s : Span} {r :
   run-failed-of z m = subst (λ (r : Ran). AnswersRun o x src ws t n s r t′) z (m .by)
 
 -- A LIST UNDER WAY: o is what comes of the rest of it at p, on top of x and of c records that are written; z is the last one's span, or else s
-pub record Rolls (l : Symbol) (o : Outcome) (src ws t : List ℕ) (n : ℕ) (s : Span) (x : Acc) (a p q c : ℕ) (z : Span) (tree : List ℕ) : Type 0 where
+pub record Rolls (l : Symbol) (o : Outcome) (src : Text) (ws t : List ℕ) (n : ℕ) (s : Span) (x : Acc) (a p q c : ℕ) (z : Span) (tree : List ℕ) : Type 0 where
   pub row : Row
   pub last : Reached
   pub so : o ≡ reads l a (from src ws p) (onto x row last)
@@ -74,13 +75,13 @@ pub record Rolls (l : Symbol) (o : Outcome) (src ws t : List ℕ) (n : ℕ) (s :
   pub laid : Laid t n row tree q
 
 -- THE INVARIANT OF ITS LOOP, which began at the token i with the records from n on and the span s
-pub record Rolling (l : Symbol) (src ws : List ℕ) (a i n : ℕ) (s : Span) (t : List ℕ) (p q c : ℕ) (z : Span) (tree : List ℕ) : Type 0 where
+pub record Rolling (l : Symbol) (src : Text) (ws : List ℕ) (a i n : ℕ) (s : Span) (t : List ℕ) (p q c : ℕ) (z : Span) (tree : List ℕ) : Type 0 where
   pub rolls : (x : Acc) → Rolls l (reads l a (from src ws i) x) src ws t n s x a p q c z tree
   pub ready : Ready ws p q
   pub few : c ≤ q
   pub long : length tree ≡ length t
 
-module _ {l elem : Symbol} {k : ℕ} (law : Law l elem k) (src : List ℕ) {ws : List ℕ} (a : ℕ) {i n : ℕ} {s : Span} {t : List ℕ} where
+module _ {l elem : Symbol} {k : ℕ} (law : Law l elem k) (src : Text) {ws : List ℕ} (a : ℕ) {i n : ℕ} {s : Span} {t : List ℕ} where
   pub run-begun : Ready ws i n → Rolling l src ws a i n s t i n 0 s t
   run-begun g = record { rolls = λ x. record { row = none; last = nil; so = refl; many = refl; spans = refl; laid = laid-none }; ready = g; few = zero-le; long = refl }
 

@@ -8,13 +8,16 @@ use native.Mathlib.Omega.{arith}
 use lib.Dec.{T}
 use lib.ListN.{drop}
 use Rattle.grammar.specs.Grammar.{Tok, noTok, one, sub}
-use Rattle.grammar.specs.Records.{Acc, Rec, none, put, count, made, spanOf, apart, Span as Reached, nil, span, join, orElse, from as lowest, upto, nothing, pass, fresh}
+use Rattle.grammar.specs.Records.{Acc, Rec, none, put, count, made, nothing, pass, apart, fresh, beside}
+use Rattle.grammar.specs.Records.{Span as Reached, spanOf, nil, span, join, orElse, from as lowest, upto}
 use Rattle.grammar.specs.Fused.{Outcome, left}
 use Rattle.grammar.proofs.Lines.{mark}
+use Rattle.grammar.specs.Reader.{miss}
 use Rattle.quanta_token.specs.TokenKind.{code, Eof}
 use Rattle.quanta_grammar.specs.NodeKind.{nodeCode, program-node}
 use Rattle.quanta_grammar.specs.Productions.{Symbol, grammar, outs, item, stmt, expr, type, imports, contracts, programCall, itemCall, stmtCall, exprCall, typeCall, whole-program, whole-item, whole-stmt, whole-expr, whole-type}
-use Rattle.quanta_grammar.specs.Reading.{targets, allowance, reads}
+use Rattle.quanta_grammar.specs.RefusalKind.{refusalCode, token-after-the-end}
+use Rattle.quanta_grammar.specs.Reading.{targets, plan, allowance, reads}
 use Rattle.quanta_cursor.specs.declared.parser.TokenPos.{TokenPos}
 use Rattle.quanta_cursor.specs.declared.parser.Span.{Span}
 use Rattle.quanta_cursor.specs.declared.parser.Node.{Node}
@@ -25,7 +28,7 @@ use Rattle.quanta_cursor.specs.declared.parser.Expected.{Expected}
 use Rattle.quanta_cursor.specs.declared.parser.Expected.the-variants as expected
 use Rattle.quanta_cursor.specs.Tokens.{size, kindAt, startAt, stopAt, from, tokAt, Closed, Ready}
 use Rattle.quanta_cursor.specs.Tree.{recOf, putRec}
-use Rattle.quanta_cursor.specs.Answers.{Failed, Took, Reads}
+use Rattle.quanta_cursor.specs.Answers.{single, Failed, Took, Reads}
 use Rattle.quanta_cursor.specs.Cursor.{joined, spanAt, ExpectsEof}
 use Rattle.quanta_cursor.proofs.Sets.{is-one, not-one}
 use Rattle.quanta_cursor.proofs.Places.{from-end, laid-none, laid-glue, laid-put, all-few}
@@ -33,21 +36,25 @@ use Rattle.quanta_cursor.proofs.Meeting.{took-of, failed-of, eof-of, more-of}
 use Rattle.quanta_cursor.proofs.Doing.{Doing, begin, eat, lack, bring, fails, over}
 use Rattle.quanta_cursor.proofs.Lists.{glue-none, count-glue}
 use Rattle.quanta_cursor.proofs.Under.{Under, starts, folded, unfolded}
+use Rattle.quanta_type.specs.Halves.{halfFrom, halfErr, TookHalf}
+use Rattle.quanta_type.proofs.Halves.{bring-any, eof-tail, eof-shown}
 use Rattle.quanta_parser.specs.declared.program.Run.{Run}
 use Rattle.quanta_parser.specs.declared.program.Ran.{Ran}
 use Rattle.quanta_parser.specs.declared.program.Ran.the-variants as ran
 use Rattle.quanta_parser.specs.Runs.{onto, lastOr, TookRun, Runs}
 use Rattle.quanta_parser.specs.Whole.{TookWhole, MeetsWhole}
 use Rattle.quanta_parser.proofs.Running.{run-of, run-failed-of}
+use Rattle.quanta_grammar.specs.Refine.{Text}
 
 -- the end stands at p, which is the last token
-nothing-behind : (src ws : List ℕ) {p : ℕ} → Closed ws → p < size ws → kindAt ws p ≡ code Eof → from src ws (p + 1) ≡ []
+nothing-behind : (src : Text) (ws : List ℕ) {p : ℕ} → Closed ws → p < size ws → kindAt ws p ≡ code Eof
+    → from src ws (p + 1) ≡ []
 nothing-behind src ws {p} c h e = from-end src ws (p + 1) (c .only p h e)
 
 -- A CALL of one phrase: s, and then the end
 pub record Calls (call s : Symbol) : Type 0 where
   pub heedless : T (not (targets .minds s))
-  pub begins : (src ws : List ℕ) → 0 < size ws
+  pub begins : (src : Text) (ws : List ℕ) → 0 < size ws
       → Doing (reads call allowance (from src ws 0) fresh) src ws (tokAt src ws 0) (mark nothing pass apart [] ∷ mark nothing pass apart [] ∷ []) (sub s ∷ one (code Eof ∷ []) ∷ []) allowance 0 fresh
 
 pub item-call : Calls itemCall item
@@ -62,7 +69,8 @@ expr-call = record { heedless = tt; begins = λ src ws h. begin src ws 0 h exprC
 pub type-call : Calls typeCall type
 type-call = record { heedless = tt; begins = λ src ws h. begin src ws 0 h typeCall whole-type allowance fresh refl refl }
 
-module _ {call s : Symbol} (law : Calls call s) (src : List ℕ) {ws t : List ℕ} (g : Ready ws 0 0) {y : Parsed} {t′ : List ℕ} (v : Reads src s ws 0 0 allowance t y t′) where
+module _ {call s : Symbol} (law : Calls call s) (src : Text) {ws t : List ℕ} (g : Ready ws 0 0) {y : Parsed}
+    {t′ : List ℕ} (v : Reads src s ws 0 0 allowance t y t′) where
   abbrev all : Outcome
   all = reads call allowance (from src ws 0) fresh
 
@@ -94,6 +102,22 @@ module _ {call s : Symbol} (law : Calls call s) (src : List ℕ) {ws t : List �
             };
           }
 
+-- A TYPE that the first closer of a `>>` closed: the second is a token behind the end
+pub type-halved : (src : Text) {ws t : List ℕ} → Ready ws 0 0 → {m : Node} {t′ : List ℕ}
+    → TookHalf (reads type allowance (from src ws 0) fresh) src ws t 0 m t′ → {u : Refusal}
+    → u ≡ halfErr ws (m .at .0) (refusalCode token-after-the-end) 0
+    → MeetsWhole (reads typeCall allowance (from src ws 0) fresh) t (parsed.Refused u) t′
+type-halved src {ws} g {m} k e =
+    record {
+      by = record {
+        refusal = miss plan (code Eof ∷ []) (halfFrom src ws (m .at .0));
+        gave = bring-any src ws (m .at .0) (type-call .begins src ws (g .inside)) tt (k .gave)
+            ∙ eof-tail src ws (m .at .0) (tokAt src ws 0) (mark nothing pass apart []) allowance
+            (beside apart fresh (single (k .top) (k .below) (m .span)));
+        says = e ∙ eof-shown src ws (m .at .0);
+      };
+    }
+
 -- A PROGRAM: its span is the first token's, joined with that of the last contract, or else of the last import
 reached : (u v : Reached) (a b : ℕ) → joined (record { start = a; end = b }) (lastOr v (lastOr u (record { start = a; end = b }))) ≡ record { start = lowest (join (span a b) (orElse v (orElse u nil))); end = upto (join (span a b) (orElse v (orElse u nil))) }
 reached nil nil a b =
@@ -104,12 +128,13 @@ reached (span c d) nil a b = refl
 reached nil (span e f) a b = refl
 reached (span c d) (span e f) a b = refl
 
-run-few : {o : Outcome} {x : Acc} {src ws t : List ℕ} {n : ℕ} {s : Span} {r : Run} {t′ : List ℕ} → TookRun o x src ws t n s r t′ → r .count + n ≤ r .no .0
+run-few : {o : Outcome} {x : Acc} {src : Text} {ws t : List ℕ} {n : ℕ} {s : Span} {r : Run} {t′ : List ℕ}
+    → TookRun o x src ws t n s r t′ → r .count + n ≤ r .no .0
 run-few {src = src} {ws} {t} {n} {r = r} {t′} k =
     all-few {o = left (record { row = k .row; reach = nil; mine = noTok; sum = 0 }) (from src ws (r .at .0))} {src = src} {ws = ws} {t = t} {n = n} {r = record { at = r .at; no = r .no; count = r .count }} {t′ = t′}
     (record { acc = record { row = k .row; reach = nil; mine = noTok; sum = 0 }; gave = refl; many = k .many; laid = k .laid; inside = k .ready .inside })
 
-module _ (src ws : List ℕ) (g : Ready ws 0 0) (t : List ℕ) where
+module _ (src : Text) (ws : List ℕ) (g : Ready ws 0 0) (t : List ℕ) where
   abbrev program : Outcome
   program = reads programCall allowance (from src ws 0) fresh
 

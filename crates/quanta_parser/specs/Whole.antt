@@ -9,6 +9,7 @@ use Rattle.quanta_grammar.specs.Productions.{Symbol}
 use Rattle.quanta_grammar.specs.Reading.{allowance, reads}
 use Rattle.quanta_cursor.specs.declared.parser.Parsed.{Parsed}
 use Rattle.quanta_cursor.specs.declared.parser.Parsed.the-variants as parsed
+use Rattle.quanta_grammar.specs.Refine.{Text}
 use Rattle.quanta_cursor.specs.Tokens.{from}
 use Rattle.quanta_cursor.specs.Tree.{Laid}
 use Rattle.quanta_cursor.specs.Answers.{Failed}
@@ -27,5 +28,5 @@ pub record MeetsWhole (o : Outcome) (t : List ℕ) (r : Parsed) (t′ : List ℕ
   pub by : AnswersWhole o t r t′
 
 -- the whole reading of s over the words t: the answer r, and the words t′
-abbrev pub ReadsWhole : List ℕ → Symbol → List ℕ → List ℕ → Parsed → List ℕ → Type 0
+abbrev pub ReadsWhole : Text → Symbol → List ℕ → List ℕ → Parsed → List ℕ → Type 0
 ReadsWhole src s ws t r t′ = MeetsWhole (reads s allowance (from src ws 0) fresh) t r t′

@@ -21,6 +21,7 @@ use quanta_cursor::parser::expect_str;
 use quanta_cursor::parser::peek;
 use quanta_cursor::parser::peek_span;
 use quanta_item::decl::contract_item;
+use quanta_token::edition::Edition;
 use quanta_token::token;
 ghost use mathlib.Core.Path.{_≡_};
 ghost use mathlib.Core.List.{List};
@@ -33,6 +34,7 @@ ghost use Rattle.quanta_cursor.specs.Answers.{Reads, Lists};
 ghost use Rattle.quanta_cursor.specs.Cursor.{spanAt, Closes};
 ghost use Rattle.quanta_cursor.specs.Lists.{WordList};
 ghost use Rattle.quanta_parser.specs.Runs.{Runs};
+ghost use Rattle.quanta_grammar.specs.Refine.{Text, text};
 
 // Imports or contracts one after the other: the next token, the next record, how many, and the last one's span.
 pub struct Run {
@@ -51,7 +53,7 @@ pub enum Ran {
 // The imports of a program, and `span` where there is none.
 pub fn imports(tokens: &[u32], tree: &mut [u32], at: TokenPos, no: RecordNo, span: Span) -> Ran
     requires { ⌜ Ready (now tokens) (at .0) (no .0) ⌝ }
-    ensures { λ r. ⌜ ((src : List ℕ) (a : ℕ) → Runs src imports (now (tokens .entry)) (at .0) (no .0) a span (now (tree .entry)) r (now (tree .exit))) ⌝ }
+    ensures { λ r. ⌜ ((src : Text) (a : ℕ) → Runs src imports (now (tokens .entry)) (at .0) (no .0) a span (now (tree .entry)) r (now (tree .exit))) ⌝ }
 {
     let mut at = at;
     let mut no = no;
@@ -78,6 +80,7 @@ pub fn imports(tokens: &[u32], tree: &mut [u32], at: TokenPos, no: RecordNo, spa
 
 // The contracts of a program, and `span` where there is none.
 pub fn contracts(
+    edition: Edition,
     src: &[u8],
     tokens: &[u32],
     tree: &mut [u32],
@@ -87,14 +90,14 @@ pub fn contracts(
     span: Span,
 ) -> Ran
     requires { ⌜ Ready (now tokens) (at .0) (no .0) ⌝ }
-    ensures { λ r. ⌜ Runs (now (src .entry)) contracts (now (tokens .entry)) (at .0) (no .0) allowance span (now (tree .entry)) r (now (tree .exit)) ⌝ }
+    ensures { λ r. ⌜ Runs (text edition (now (src .entry))) contracts (now (tokens .entry)) (at .0) (no .0) allowance span (now (tree .entry)) r (now (tree .exit)) ⌝ }
 {
     let mut at = at;
     let mut no = no;
     let mut span = span;
     let mut count: u32 = 0;
     while peek(tokens, at) == token::CONTRACT {
-        match contract(src, tokens, tree, at, no, allowance) {
+        match contract(edition, src, tokens, tree, at, no, allowance) {
             Parsed::Refused(e) => return Ran::Refused(e),
             Parsed::Node(contract) => {
                 at = contract.at;
@@ -114,7 +117,7 @@ pub fn contracts(
 
 fn import_decl(tokens: &[u32], tree: &mut [u32], at: TokenPos, no: RecordNo) -> Parsed
     requires { ⌜ Ready (now tokens) (at .0) (no .0) × (kindAt (now tokens) (at .0) ≡ code Import) ⌝ }
-    ensures { λ r. ⌜ ((src : List ℕ) (a : ℕ) → Reads src import (now (tokens .entry)) (at .0) (no .0) a (now (tree .entry)) r (now (tree .exit))) ⌝ }
+    ensures { λ r. ⌜ ((src : Text) (a : ℕ) → Reads src import (now (tokens .entry)) (at .0) (no .0) a (now (tree .entry)) r (now (tree .exit))) ⌝ }
 {
     match expect(tokens, bump(at), token::LBRACE) {
         Expected::Refused(e) => Parsed::Refused(e),
@@ -183,6 +186,7 @@ fn close_import(tokens: &[u32], tree: &mut [u32], own: TokenPos, count: u32, pat
 }
 
 fn contract(
+    edition: Edition,
     src: &[u8],
     tokens: &[u32],
     tree: &mut [u32],
@@ -191,7 +195,7 @@ fn contract(
     allowance: usize,
 ) -> Parsed
     requires { ⌜ Ready (now tokens) (at .0) (no .0) × (kindAt (now tokens) (at .0) ≡ code Contract) ⌝ }
-    ensures { λ r. ⌜ Reads (now (src .entry)) contract (now (tokens .entry)) (at .0) (no .0) allowance (now (tree .entry)) r (now (tree .exit)) ⌝ }
+    ensures { λ r. ⌜ Reads (text edition (now (src .entry))) contract (now (tokens .entry)) (at .0) (no .0) allowance (now (tree .entry)) r (now (tree .exit)) ⌝ }
 {
     match expect_ident(tokens, tree, bump(at), no) {
         Parsed::Refused(e) => Parsed::Refused(e),
@@ -201,7 +205,7 @@ fn contract(
             match expect(tokens, open, token::LBRACE) {
                 Expected::Refused(e) => Parsed::Refused(e),
                 Expected::Next(inside) => {
-                    match items(src, tokens, tree, inside, no, allowance) {
+                    match items(edition, src, tokens, tree, inside, no, allowance) {
                         Listed::Refused(e) => Parsed::Refused(e),
                         Listed::Nodes(items) => close_contract(tokens, tree, at, items),
                     }
@@ -212,6 +216,7 @@ fn contract(
 }
 
 fn items(
+    edition: Edition,
     src: &[u8],
     tokens: &[u32],
     tree: &mut [u32],
@@ -220,13 +225,13 @@ fn items(
     allowance: usize,
 ) -> Listed
     requires { ⌜ Ready (now tokens) (at .0) (no .0) ⌝ }
-    ensures { λ r. ⌜ Lists (now (src .entry)) items (now (tokens .entry)) (at .0) (no .0) allowance (now (tree .entry)) r (now (tree .exit)) ⌝ }
+    ensures { λ r. ⌜ Lists (text edition (now (src .entry))) items (now (tokens .entry)) (at .0) (no .0) allowance (now (tree .entry)) r (now (tree .exit)) ⌝ }
 {
     let mut at = at;
     let mut no = no;
     let mut count: u32 = 0;
     while peek(tokens, at) != token::RBRACE && peek(tokens, at) != token::EOF {
-        match contract_item(src, tokens, tree, at, no, allowance) {
+        match contract_item(edition, src, tokens, tree, at, no, allowance) {
             Parsed::Refused(e) => return Listed::Refused(e),
             Parsed::Node(item) => {
                 at = item.at;

@@ -8,4 +8,7 @@ pub mod Numbers
 pub mod Rows
 pub mod Lengths
 pub mod Needs
+pub mod Exporting
+pub mod Editions
+pub mod Before
 pub mod Theorems

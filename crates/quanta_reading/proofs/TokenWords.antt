@@ -8,13 +8,14 @@ use borrow.Author.Tests.{ne-eqb}
 use lib.Dec.{T}
 use lib.ListN.{length, getD, take, replicate}
 use lib.Seq.{take-at}
+use Rattle.quanta_token.specs.declared.edition.Edition.{Edition}
 use Rattle.quanta_token.specs.TokenKind.{code, Eof}
 use Rattle.quanta_lexer.specs.Promise.{InOrder, eof, more, Promised}
 use Rattle.quanta_lexer.specs.Tokens.{Tok, records, lexAll}
 use Rattle.quanta_lexer.specs.Tokenizing.{tokenizing, tokenWords}
 use Rattle.quanta_lexer.specs.declared.lexer.Answer.the-variants as lexer
 use Rattle.quanta_lexer.proofs.Theorems.{accepted, records-then-zeros}
-use Rattle.quanta_grammar.specs.Refine.{Plain, classify, ahead, refine, closed, Ordered}
+use Rattle.quanta_grammar.specs.Refine.{Plain, Text, classify, ahead, refine, closed, Ordered}
 use Rattle.quanta_cursor.specs.Tokens.{size, kindAt, plainAt, run, plainFrom, from, Ready}
 
 -- what stands behind the first token
@@ -49,7 +50,7 @@ size-records : (ts : List Tok) → size (records ts) ≡ length ts
 size-records ts = omega (arith, length-records ts)
 
 -- THE TOKENS COME BACK, as the grammar has them
-pub from-all : (src : List ℕ) (ts : List Tok) → from src (records ts) 0 ≡ refine src ts
+pub from-all : (src : Text) (ts : List Tok) → from src (records ts) 0 ≡ refine src ts
 unfolding from plainFrom
 from-all src ts = ap (λ (l : List Plain). ahead (classify src 0 l)) (ap (λ (n : ℕ). run (records ts) 0 n) (omega (arith, size-records ts)) ∙ run-all ts)
 
@@ -94,11 +95,11 @@ ready s ts n p =
     }
 
 -- the front of the token buffer is these words
-pub fronts : (s t : List ℕ) (words n : ℕ) → tokenizing s t words ≡ lexer.Accepted n → take (3 * n) (tokenWords s t words) ≡ records (lexAll s t .toks)
-fronts s t words n e =
-    let p = accepted s t words n e .0 in
-    ap (λ (l : List ℕ). take (3 * n) l) (records-then-zeros s t words n e)
-    ∙ take-at (records (lexAll s t .toks)) (replicate (words - 3 * n) 0) (3 * n) (omega (arith, length-records (lexAll s t .toks), p .counted))
+pub fronts : (ed : Edition) (s t : List ℕ) (words n : ℕ) → tokenizing ed s t words ≡ lexer.Accepted n → take (3 * n) (tokenWords ed s t words) ≡ records (lexAll ed s t .toks)
+fronts ed s t words n e =
+    let p = accepted ed s t words n e .0 in
+    ap (λ (l : List ℕ). take (3 * n) l) (records-then-zeros ed s t words n e)
+    ∙ take-at (records (lexAll ed s t .toks)) (replicate (words - 3 * n) 0) (3 * n) (omega (arith, length-records (lexAll ed s t .toks), p .counted))
 
 -- tokens in order: Eof at the end and only there, and their spans in order
 pub closes : (b i : ℕ) (ts : List Tok) → InOrder b i ts → T (closed ts)
@@ -110,6 +111,6 @@ pub orders : (b i : ℕ) (ts : List Tok) → InOrder b i ts → Ordered i b ts
 orders b i ts (eof a p q) = (p, omega arith, q)
 orders b i ts (more k a e lo hi p q r o) = (p, omega arith, orders b e _ o)
 
-pub length-refine : (src : List ℕ) (n : ℕ) (ts : List Plain) → length (ahead (classify src n ts)) ≡ length ts
+pub length-refine : (src : Text) (n : ℕ) (ts : List Plain) → length (ahead (classify src n ts)) ≡ length ts
 length-refine src n [] = refl
 length-refine src n (t ∷ ts) = ap suc (length-refine src (suc n) ts)

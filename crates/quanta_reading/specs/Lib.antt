@@ -4,3 +4,4 @@ pub mod Targets
 pub mod Demand3
 pub mod Values
 pub mod Rows
+pub mod Before

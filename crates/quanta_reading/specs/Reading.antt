@@ -1,4 +1,5 @@
--- THE READING: a call's answer and every word of both buffers, from the source, the word table and the lengths of the buffers.
+-- THE READING: a call's answer and every word of both buffers, from the edition, the source, the word table and the
+-- lengths of the buffers.
 -- Assumes nothing.
 use mathlib.Core.Path.{_≡_}
 use mathlib.Core.Bool.{Bool, true, false}
@@ -6,13 +7,14 @@ use mathlib.Core.List.{List, [], _∷_, _++_}
 use Prim.Native.Nat.{ℕ, _-_, _*_, _/_}
 use lib.Dec.{ltb}
 use lib.ListN.{length, replicate}
+use Rattle.quanta_token.specs.declared.edition.Edition.{Edition}
 use Rattle.grammar.specs.Records.{Rec}
 use Rattle.quanta_lexer.specs.Tokens.{lexAll}
 use Rattle.quanta_lexer.specs.Tokenizing.{tokenizing, tokenWords}
 use Rattle.quanta_lexer.specs.declared.lexer.Answer.{Answer as OfBytes}
 use Rattle.quanta_lexer.specs.declared.lexer.Answer.the-variants as lexer
 use Rattle.quanta_grammar.specs.Productions.{Symbol}
-use Rattle.quanta_grammar.specs.Refine.{Answer as OfTokens, accept, reject, answer}
+use Rattle.quanta_grammar.specs.Refine.{text, Answer as OfTokens, accept, reject, answer}
 use Rattle.quanta_reading.specs.declared.answer.Answer.{Answer}
 use Rattle.quanta_reading.specs.declared.answer.Answer.the-variants.{Accepted, Lexical, NoTokenRoom, Syntax, NoTreeRoom}
 
@@ -57,21 +59,21 @@ pub record Reading : Type 0 where
   pub tree : List ℕ
 
 -- the answer of the call s; room is the tree buffer's length divided by 6, rounded down
-unfoldable pub answering : Symbol → List ℕ → List ℕ → ℕ → ℕ → Answer
-answering s source table tokens tree =
-    lexed (tokenizing source table tokens) (λ n. parsed (tree / 6) n (answer s source (lexAll source table .toks)))
+unfoldable pub answering : Edition → Symbol → List ℕ → List ℕ → ℕ → ℕ → Answer
+answering ed s source table tokens tree =
+    lexed (tokenizing ed source table tokens) (λ n. parsed (tree / 6) n (answer s (text ed source) (lexAll ed source table .toks)))
 
 -- the call s on a source and a word table, with token and tree buffers of so many words
-unfoldable pub reading : Symbol → List ℕ → List ℕ → ℕ → ℕ → Reading
-reading s source table tokens tree =
+unfoldable pub reading : Edition → Symbol → List ℕ → List ℕ → ℕ → ℕ → Reading
+reading ed s source table tokens tree =
     record {
-      answer = answering s source table tokens tree;
-      tokens = tokenWords source table tokens;
-      tree = treeWords tree (recordsOf (answer s source (lexAll source table .toks))) (answering s source table tokens tree);
+      answer = answering ed s source table tokens tree;
+      tokens = tokenWords ed source table tokens;
+      tree = treeWords tree (recordsOf (answer s (text ed source) (lexAll ed source table .toks))) (answering ed s source table tokens tree);
     }
 
 -- THE CONTRACT of the call s: its answer and the words that it leaves in both buffers are the reading's
-pub record Conforms (s : Symbol) (source table : List ℕ) (tokens tree : ℕ) (r : Answer) (tokens′ tree′ : List ℕ) : Type 0 where
-  pub answers : r ≡ reading s source table tokens tree .answer
-  pub tokened : tokens′ ≡ reading s source table tokens tree .tokens
-  pub treed : tree′ ≡ reading s source table tokens tree .tree
+pub record Conforms (ed : Edition) (s : Symbol) (source table : List ℕ) (tokens tree : ℕ) (r : Answer) (tokens′ tree′ : List ℕ) : Type 0 where
+  pub answers : r ≡ reading ed s source table tokens tree .answer
+  pub tokened : tokens′ ≡ reading ed s source table tokens tree .tokens
+  pub treed : tree′ ≡ reading ed s source table tokens tree .tree

@@ -3,6 +3,11 @@
 use mathlib.Core.Path.{_≡_}
 use mathlib.Core.List.{List}
 use Prim.Native.Nat.{ℕ, _<_}
+use lib.ListN.{replicate}
+use Rattle.quanta_token.specs.Editions.{editionOf}
+use Rattle.quanta_token.specs.declared.edition.Edition.{Edition}
+use Rattle.quanta_token.specs.declared.edition.Numbered.{Numbered}
+use Rattle.quanta_token.specs.declared.edition.Numbered.the-variants.{Known, Unknown}
 use Rattle.quanta_lexer.specs.Refusals.{noRoom}
 use Rattle.quanta_grammar.specs.Productions.{Symbol}
 use Rattle.quanta_reading.specs.declared.answer.Answer.{Answer}
@@ -42,7 +47,24 @@ FitsWord (NoTreeRoom m) = m < 4294967296
 pub record Fits (r : Answer) : Type 0 where
   pub by : FitsWord r
 
--- the numbers of an answer that meets the call's contract
-abbrev pub Exported : Symbol → List ℕ → List ℕ → ℕ → ℕ → Outcome → List ℕ → List ℕ → Type 0
-Exported s source table tokens tree r tokens′ tree′ =
-    (a : Answer) × (r ≡ values a) × Conforms s source table tokens tree a tokens′ tree′ × Faithful s source table tokens tree a tree′
+-- 29: an unknown edition
+abbrev pub unknownEdition : ℕ
+unknownEdition = 29
+
+-- the numbers of an answer that meets the call's contract in an edition
+abbrev pub ExportedIn : Edition → Symbol → List ℕ → List ℕ → ℕ → ℕ → Outcome → List ℕ → List ℕ → Type 0
+ExportedIn ed s source table tokens tree r tokens′ tree′ =
+    (a : Answer) × (r ≡ values a) × Conforms ed s source table tokens tree a tokens′ tree′
+    × Faithful ed s source table tokens tree a tree′
+
+-- .. or 29, and both buffers zero
+abbrev pub ExportedBy : Numbered → Symbol → List ℕ → List ℕ → ℕ → ℕ → Outcome → List ℕ → List ℕ → Type 0
+ExportedBy (Known ed) s source table tokens tree r tokens′ tree′ =
+    ExportedIn ed s source table tokens tree r tokens′ tree′
+ExportedBy Unknown s source table tokens tree r tokens′ tree′ =
+    (r ≡ refused unknownEdition 0 0 0 0 0) × (tokens′ ≡ replicate tokens 0) × (tree′ ≡ replicate tree 0)
+
+-- what an exported call says by the number of the edition
+pub record Exported (edition : ℕ) (s : Symbol) (source table : List ℕ) (tokens tree : ℕ) (r : Outcome)
+    (tokens′ tree′ : List ℕ) : Type 0 where
+  pub by : ExportedBy (editionOf edition) s source table tokens tree r tokens′ tree′

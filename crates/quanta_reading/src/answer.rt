@@ -10,7 +10,7 @@ pub enum Answer {
         tokens: usize,
         records: usize,
     },
-    // A refusal 1 to 10.
+    // A refusal 1 to 10, or 28.
     Lexical {
         number: u32,
         start: usize,

@@ -9,7 +9,7 @@ ghost use lib.ListN.{length, replicate};
 ghost use Rattle.quanta_reading.specs.Finish.{ended, kept};
 
 // Makes every word 0.
-fn clear(tree: &mut [u32])
+pub fn clear(tree: &mut [u32])
     ensures { λ _. ⌜ now (tree .exit) ≡ replicate (length (now (tree .entry))) 0 ⌝ }
 {
     let mut i = 0;
@@ -19,7 +19,7 @@ fn clear(tree: &mut [u32])
     }
 }
 
-// A refusal 1 to 10.
+// A refusal 1 to 10, or 28.
 pub fn refuse(tree: &mut [u32], number: u32, start: usize, end: usize) -> Answer
     ensures { λ r. ⌜ (r ≡ Answer.Lexical number start end) × (now (tree .exit) ≡ replicate (length (now (tree .entry))) 0) ⌝ }
 {

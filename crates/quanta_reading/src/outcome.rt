@@ -3,8 +3,12 @@
 
 // An answer in document 01's numbers.
 use crate::answer::Answer;
+use crate::finish::clear;
 ghost use mathlib.Core.Path.{_≡_};
-ghost use Rattle.quanta_reading.specs.Values.{accepted, refused, values, Fits};
+ghost use lib.ListN.{length, replicate};
+ghost use Rattle.quanta_reading.specs.Values.{accepted, refused, unknownEdition, values, Fits};
+
+const UNKNOWN_EDITION: u32 = 29;
 
 // Number 0 is acceptance with the counts of records, another is the refusal; what it does not name is 0.
 #[repr(C)]
@@ -66,4 +70,16 @@ pub fn numbers_of(answer: Answer) -> Outcome
         }
         Answer::NoTreeRoom(need) => refused(23, 0, 0, 0, 0, need as u32),
     }
+}
+
+// 29: no such edition, and both buffers zero.
+pub fn unknown_edition(tokens: &mut [u32], tree: &mut [u32]) -> Outcome
+    ensures { λ r.
+        ⌜ (r ≡ refused unknownEdition 0 0 0 0 0)
+        × (now (tokens .exit) ≡ replicate (length (now (tokens .entry))) 0)
+        × (now (tree .exit) ≡ replicate (length (now (tree .entry))) 0) ⌝ }
+{
+    clear(tokens);
+    clear(tree);
+    refused(UNKNOWN_EDITION, 0, 0, 0, 0, 0)
 }

@@ -16,6 +16,7 @@ use Rattle.quanta_grammar.specs.NodeKind.{nodeCode, assign-node, expr-node}
 use Rattle.quanta_grammar.specs.RefusalKind.{refusalCode, bad-target}
 use Rattle.quanta_grammar.specs.Productions.{Production, outs, assigns, expr, stmt, subject, tail, guard-stmt, let-stmt, emit-stmt, assign-or-expr-stmt, subject-expr, assign-tail, semi-tail}
 use Rattle.quanta_grammar.specs.Reading.{reads}
+use Rattle.quanta_grammar.specs.Refine.{Text}
 use Rattle.quanta_cursor.specs.declared.parser.Node.{Node}
 use Rattle.quanta_cursor.specs.declared.parser.Refusal.{Refusal}
 use Rattle.quanta_cursor.specs.declared.parser.Parsed.{Parsed}
@@ -70,7 +71,7 @@ granted : (b : Bool) → not b ≡ false → T b
 granted true e = tt
 granted false e = subst T e tt
 
-module _ (src ws : List ℕ) (at a : ℕ) (h : at < size ws) (w : Keyless (kindAt ws at)) where
+module _ (src : Text) (ws : List ℕ) (at a : ℕ) (h : at < size ws) (w : Keyless (kindAt ws at)) where
   abbrev whole : Outcome
   whole = reads stmt a (from src ws at) fresh
 
@@ -124,7 +125,7 @@ module _ (src ws : List ℕ) (at a : ℕ) (h : at < size ws) (w : Keyless (kindA
             (ap (λ (f : ℕ). single (closeRec ws (l .at .0) (nodeCode assign-node) f (m .at .0) (m .span) 2) (put (put none (k .top) (k .below)) (y .top) (y .below)) (joined (m .span) (spanAt ws (l .at .0)))) flags) c)
           where
             flags : flagOf (outs .flags) (nodeCode assign-node) (fineAt src ws (m .at .0)) + 0 ≡ flag
-            flags = let y = fine-kind (flagOf (outs .flags) (nodeCode assign-node)) refl refl refl src ws (m .at .0) in let x = u .1 in omega arith
+            flags = let y = fine-kind (flagOf (outs .flags) (nodeCode assign-node)) refl refl refl refl src ws (m .at .0) in let x = u .1 in omega arith
 
 -- behind the operator there is a token
 pub assign-ready : {ws : List ℕ} {i n p : ℕ} → Ready ws i n → T (has assigns (kindAt ws i)) → p ≡ i + 1 → Ready ws p n

@@ -16,6 +16,7 @@ use Rattle.quanta_grammar.specs.NodeKind.{nodeCode, guard-node, let-node, emit-
 use Rattle.quanta_grammar.specs.RefusalKind.{refusalCode, expected-identifier}
 use Rattle.quanta_grammar.specs.Productions.{Production, grammar, outs, name, expr, args, stmt, guard-stmt, let-stmt, emit-stmt, assign-or-expr-stmt}
 use Rattle.quanta_grammar.specs.Reading.{reads}
+use Rattle.quanta_grammar.specs.Refine.{Text}
 use Rattle.quanta_cursor.specs.declared.parser.TokenPos.{TokenPos}
 use Rattle.quanta_cursor.specs.declared.parser.Node.{Node}
 use Rattle.quanta_cursor.specs.declared.parser.Nodes.{Nodes}
@@ -58,7 +59,7 @@ module _ {ws : List ℕ} {p n : ℕ} (g : Ready ws p n) {t t₁ : List ℕ} {r :
   name-laid : {m : Node} → r ≡ parsed.Node m → Laid t n (put none (leafRec ws p (nodeCode name-node)) none) t₁ (m .no .0)
   name-laid z = let y = word-of z v in laid-word (leafRec ws p (nodeCode name-node)) laid-none (y .2) (ap (λ (m : Node). m .no .0) (y .1))
 
-  module _ {o : Outcome} {src : List ℕ} {t₀ : Tok} {ms : List Mark} {is : Items grammar} {a : ℕ} {x : Acc} (d : Doing o src ws t₀ (mark word pass apart [] ∷ ms) (one name ∷ is) a p x) where
+  module _ {o : Outcome} {src : Text} {t₀ : Tok} {ms : List Mark} {is : Items grammar} {a : ℕ} {x : Acc} (d : Doing o src ws t₀ (mark word pass apart [] ∷ ms) (one name ∷ is) a p x) where
     unnamed : {e : Refusal} → r ≡ parsed.Refused e → Failed o e
     unnamed z = let y = no-word-of z v in lack d tt (g .closed) (g .inside) (y .0) tt (y .1)
 
@@ -66,14 +67,14 @@ module _ {ws : List ℕ} {p n : ℕ} (g : Ready ws p n) {t t₁ : List ℕ} {r :
     named {m} z =
         let y = word-of z v in
         subst (λ (k : ℕ). Doing o src ws t₀ ms is a (m .at .0) (record { row = put (x .row) (leafRec ws p k) none; reach = x .reach; mine = x .mine; sum = x .sum }))
-        (fine-kind (leafKind (outs .leafs)) refl refl refl src ws p ∙ name-kind (kindAt ws p) (y .0))
+        (fine-kind (leafKind (outs .leafs)) refl refl refl refl src ws p ∙ name-kind (kindAt ws p) (y .0))
         (eat d tt (g .inside) (y .0) (ap (λ (m : Node). m .at .0) (y .1)))
 
 -- behind a token that was expected
 pub next-ready : {ws : List ℕ} {i n : ℕ} (k : ℕ) {x : Expected} {p : TokenPos} → (T (eqb k (code Eof)) → ⊥) → Ready ws i n → x ≡ expected.Next p → Expects ws i k x → Ready ws (p .0) n
 next-ready k w g z v = let y = next-of z v in ready-past g (past-as k w (g .closed) (g .inside) (y .0)) (y .1)
 
-module _ (src ws : List ℕ) (at a : ℕ) {p : ℕ} (h : at < size ws) (q : p ≡ at + 1) where
+module _ (src : Text) (ws : List ℕ) (at a : ℕ) {p : ℕ} (h : at < size ws) (q : p ≡ at + 1) where
   abbrev whole : Outcome
   whole = reads stmt a (from src ws at) fresh
 

@@ -1,4 +1,5 @@
 pub mod Bytes
+pub mod Editions
 pub mod Keywords
 pub mod Runs
 pub mod Symbols

@@ -1,3 +1,4 @@
 pub mod Words
+pub mod Halves
 pub mod Types
 pub mod Arguments

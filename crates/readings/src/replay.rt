@@ -15,20 +15,26 @@ use quanta_stored::line::size;
 use quanta_stored::words::spoil;
 use quanta_stored::words::sum;
 
-// The fields of a line: the call, the word table, the source, the lengths of both buffers, and from ANSWER on the answer.
-pub const CALL: usize = 0;
+// The fields of a line: the edition, the call, the word table, the source, the lengths of both buffers, and from ANSWER
+// on the answer.
+pub const EDITION: usize = 0;
 
-const WORDS: usize = 1;
+pub const CALL: usize = 1;
 
-const SOURCE: usize = 2;
+const WORDS: usize = 2;
 
-const TOKENS: usize = 3;
+const SOURCE: usize = 3;
 
-const TREE: usize = 4;
+const TOKENS: usize = 4;
 
-pub const ANSWER: usize = 5;
+const TREE: usize = 5;
 
-const LAST: usize = 14;
+pub const ANSWER: usize = 6;
+
+const LAST: usize = 15;
+
+// The largest number that an edition may have.
+const LARGEST: u64 = 4294967295;
 
 fn wide(x: u32) -> u64 {
     x as u64
@@ -51,18 +57,26 @@ fn numbers(answer: Outcome, tokens: &[u32], tree: &[u32]) -> [u64; 10] {
 }
 
 // Makes a call: 0 for a program, 1 an item, 2 a statement, 3 an expression, 4 a type.
-fn make(call: u64, words: &[u8], source: &[u8], tokens: &mut [u32], tree: &mut [u32]) -> Outcome {
+fn make(
+    edition: u32,
+    call: u64,
+    words: &[u8],
+    source: &[u8],
+    tokens: &mut [u32],
+    tree: &mut [u32],
+) -> Outcome {
     match call {
-        0 => quanta_parse(source, words, tokens, tree),
-        1 => quanta_parse_item(source, words, tokens, tree),
-        2 => quanta_parse_stmt(source, words, tokens, tree),
-        3 => quanta_parse_expr(source, words, tokens, tree),
-        _ => quanta_parse_type(source, words, tokens, tree),
+        0 => quanta_parse(edition, source, words, tokens, tree),
+        1 => quanta_parse_item(edition, source, words, tokens, tree),
+        2 => quanta_parse_stmt(edition, source, words, tokens, tree),
+        3 => quanta_parse_expr(edition, source, words, tokens, tree),
+        _ => quanta_parse_type(edition, source, words, tokens, tree),
     }
 }
 
 // What comes of the call on the bytes of a line and on spoilt buffers.
 fn ask(
+    edition: u32,
     call: u64,
     line: &[u8],
     words: &mut [u8],
@@ -74,7 +88,7 @@ fn ask(
     fill(field(line, SOURCE), source);
     spoil(tokens);
     spoil(tree);
-    let answer = make(call, words, source, tokens, tree);
+    let answer = make(edition, call, words, source, tokens, tree);
     numbers(answer, tokens, tree)
 }
 
@@ -99,9 +113,13 @@ fn call_differs(
     tokens: &mut [u32],
     tree: &mut [u32],
 ) -> bool {
+    let edition = number(field(line, EDITION));
     let call = number(field(line, CALL));
     let token_words = number(field(line, TOKENS));
     let tree_words = number(field(line, TREE));
+    if edition > LARGEST {
+        return report::malformed(no, line);
+    }
     if call > 4 {
         return report::malformed(no, line);
     }
@@ -111,9 +129,18 @@ fn call_differs(
     if tree_words > tree.len() as u64 {
         return report::malformed(no, line);
     }
+    let e = edition as u32;
     let t = token_words as usize;
     let r = tree_words as usize;
-    let came = ask(call, line, words, source, &mut tokens[..t], &mut tree[..r]);
+    let came = ask(
+        e,
+        call,
+        line,
+        words,
+        source,
+        &mut tokens[..t],
+        &mut tree[..r],
+    );
     if has_stored(line, &came) {
         return false;
     }

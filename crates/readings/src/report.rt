@@ -1,6 +1,7 @@
 // What the program prints. Of a line it answers true: the line differs.
 use crate::replay::ANSWER;
 use crate::replay::CALL;
+use crate::replay::EDITION;
 use quanta_show::print_number;
 use quanta_stored::line::field;
 use quanta_stored::line::rest;
@@ -9,10 +10,12 @@ ghost use mathlib.Core.Bool.{true};
 
 const OUT: i32 = 1;
 
-// Writes the number of a line and its call.
+// Writes the number of a line, its edition and its call.
 fn place(no: u64, line: &[u8]) {
     io::write_all(OUT, b"line ");
     io::print_decimal(OUT, no);
+    io::write_all(OUT, b" edition ");
+    io::write_all(OUT, field(line, EDITION));
     io::write_all(OUT, b" call ");
     io::write_all(OUT, field(line, CALL));
 }

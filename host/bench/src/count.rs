@@ -2,6 +2,7 @@
 
 use crate::sides::{bench_measured, Part, Ready, Room, Side};
 use crate::texts::{self, Text};
+use quanta::Edition;
 use std::hint::black_box;
 use std::process::Command;
 
@@ -21,17 +22,23 @@ const STOPS: [(&str, &[u8]); 3] = [("none", b""), ("utf8", b"\xFF"), ("source", 
 const BY_PASS: [&str; 4] = ["typical", "cjk", "crlf", "comments"];
 
 /// What is read, and how far, by name: the lexer's texts, the calls' texts, and those as far as their tokens.
-type Reading = (&'static str, Part, fn(&str) -> Option<Text>);
-const LEXER: Reading = ("lexer", Part::Tokens, texts::text);
+type Reading = (&'static str, Part, fn(&str, Edition) -> Option<Text>);
+const LEXER: Reading = ("lexer", Part::Tokens, |name, _| texts::text(name));
 const CALLS: Reading = ("calls", Part::Whole, texts::call_text);
 const TOKENS: Reading = ("tokens", Part::Tokens, texts::call_text);
 
 /// Makes a text ready and calls one side on it once.
-pub fn once(what: &str, name: &str, side: &str, stop: &str) -> Result<(), String> {
+pub fn once(
+    what: &str,
+    name: &str,
+    side: &str,
+    stop: &str,
+    edition: Edition,
+) -> Result<(), String> {
     let readings = [LEXER, CALLS, TOKENS];
     let reading = readings.into_iter().find(|(known, ..)| *known == what);
     let (_, part, text) = reading.ok_or(format!("nothing to count in {what}"))?;
-    let mut text = text(name).ok_or(format!("unknown text {name}"))?;
+    let mut text = text(name, edition).ok_or(format!("unknown text {name}"))?;
     let side = Side::from_name(side).ok_or(format!("unknown side {side}"))?;
     let stop = STOPS.iter().find(|(known, _)| *known == stop);
     let (_, behind) = stop.ok_or("--stop needs none, utf8 or source")?;
@@ -48,7 +55,7 @@ pub fn print_lexer() -> Result<(), String> {
     println!("text        original      full factor     tight factor");
     let mut by_pass = Vec::new();
     for name in texts::NAMES {
-        let counts = of_sides(LEXER, name)?;
+        let counts = of_sides(LEXER, name, Edition::One)?;
         println!("{name:10} {}", beside(counts));
         if BY_PASS.contains(&name) {
             by_pass.push((name, counts));
@@ -64,27 +71,35 @@ pub fn print_lexer() -> Result<(), String> {
     Ok(())
 }
 
-/// Prints the five calls' instructions per byte, those of the parsing alone, and how they grow.
-pub fn print_calls() -> Result<(), String> {
+/// Prints the five calls' instructions per byte, those of the parsing alone, and how they grow; in edition 2 also
+/// those of the texts on which the editions differ.
+pub fn print_calls(edition: Edition) -> Result<(), String> {
     heading();
     println!("text        original      full factor     tight factor");
     let mut whole = Vec::new();
     for name in texts::CALL_NAMES {
-        let counts = of_sides(CALLS, name)?;
+        let counts = of_sides(CALLS, name, edition)?;
         println!("{name:10} {}", beside(counts));
         whole.push((name, counts));
     }
     println!("\nparsing alone: a call less its reading of the tokens");
     println!("text        original      full factor     tight factor");
     for (name, counts) in whole {
-        let tokens = of_sides(TOKENS, name)?;
+        let tokens = of_sides(TOKENS, name, edition)?;
         let alone = [0, 1, 2].map(|side| counts[side] - tokens[side]);
         println!("{name:10} {}", beside(alone));
     }
     println!("\nthe same kind of program in several lengths");
     println!("text        original      full factor     tight factor");
     for (name, _) in texts::GROWING {
-        println!("{name:10} {}", beside(of_sides(CALLS, name)?));
+        println!("{name:10} {}", beside(of_sides(CALLS, name, edition)?));
+    }
+    if edition == Edition::Two {
+        println!("\n{}", texts::EDITION_2_HEADING);
+        println!("text        original      full factor     tight factor");
+        for name in texts::EDITION_2_NAMES {
+            println!("{name:10} {}", beside(of_sides(CALLS, name, edition)?));
+        }
     }
     Ok(())
 }
@@ -128,16 +143,26 @@ fn print_passes(name: &str, [original, full, tight]: [f64; 3]) -> Result<(), Str
     Ok(())
 }
 
-fn of_sides(reading: Reading, name: &str) -> Result<[f64; 3], String> {
+fn of_sides(reading: Reading, name: &str, edition: Edition) -> Result<[f64; 3], String> {
     let mut counts = [0.0; 3];
     for (count, side) in counts.iter_mut().zip(SIDES) {
-        *count = counted(reading, name, side, "none")?;
+        *count = counted_in(edition, reading, name, side, "none")?;
     }
     Ok(counts)
 }
 
-// Instructions per byte of one call, counted in a run of its own.
 fn counted(reading: Reading, name: &str, side: Side, stop: &str) -> Result<f64, String> {
+    counted_in(Edition::One, reading, name, side, stop)
+}
+
+// Instructions per byte of one call, counted in a run of its own.
+fn counted_in(
+    edition: Edition,
+    reading: Reading,
+    name: &str,
+    side: Side,
+    stop: &str,
+) -> Result<f64, String> {
     let (what, _, text) = reading;
     let out = std::env::temp_dir().join(format!("bench-callgrind-{}", std::process::id()));
     let this = std::env::current_exe().map_err(|error| format!("no own path: {error}"))?;
@@ -147,6 +172,7 @@ fn counted(reading: Reading, name: &str, side: Side, stop: &str) -> Result<f64, 
         .arg(format!("--callgrind-out-file={}", out.display()))
         .arg(this)
         .args(["count", what, name, side.name(), "--stop", stop])
+        .args(["--edition", &edition.to_string()])
         .output();
     let ran = ran.map_err(|error| format!("valgrind does not start: {error}"))?;
     if !ran.status.success() {
@@ -162,6 +188,7 @@ fn counted(reading: Reading, name: &str, side: Side, stop: &str) -> Result<f64, 
         .find_map(|line| line.strip_prefix("totals: "))
         .and_then(|total| total.trim().parse::<f64>().ok())
         .ok_or("no line `totals:` in callgrind's file")?;
-    let bytes = text(name).expect("the name is listed").source.len();
+    let text = text(name, edition).expect("the name is listed");
+    let bytes = text.source.len();
     Ok(total / bytes as f64)
 }

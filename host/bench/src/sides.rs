@@ -2,7 +2,7 @@
 
 use crate::texts::Text;
 use oracle::{Call, TOKEN_WORDS, TREE_WORDS};
-use quanta::raw;
+use quanta::{raw, Edition};
 use quanta_ast::{Expr, Item, Program, Stmt, Type};
 use quanta_lexer::{LexError, Token};
 use quanta_parser::ParseError;
@@ -110,6 +110,7 @@ const RUBBISH: u32 = 0xA5A5_5A5A;
 pub struct Ready<'a> {
     part: Part,
     side: Side,
+    edition: Edition,
     call: Call,
     source: &'a [u8],
     text: &'a str,
@@ -132,7 +133,11 @@ impl<'a> Ready<'a> {
             side,
             call: text.call,
             source: &text.source,
-            text: std::str::from_utf8(&text.source).unwrap_or(""),
+            text: match &text.twin {
+                Some(twin) => twin,
+                None => std::str::from_utf8(&text.source).unwrap_or(""),
+            },
+            edition: text.edition,
             words: &text.words,
             tokens: vec![RUBBISH; TOKEN_WORDS * tokens],
             tree: vec![RUBBISH; TREE_WORDS * records],
@@ -160,7 +165,8 @@ pub fn bench_measured(ready: &mut Ready) -> Given {
         }
         (Side::Proved(_), Part::Whole) => {
             let call = proved::call(ready.call);
-            Given::ProvedTree(raw::read(call, source, words, tokens, tree))
+            let edition = ready.edition.number();
+            Given::ProvedTree(raw::read(edition, call, source, words, tokens, tree))
         }
     }
 }
@@ -182,7 +188,8 @@ pub fn records_of(part: Part, text: &Text) -> usize {
     let mut tokens = vec![0; TOKEN_WORDS * (text.source.len() + 1)];
     let mut need = |source: &[u8]| {
         let call = proved::call(text.call);
-        raw::read(call, source, &text.words, &mut tokens, &mut []).need as usize
+        let edition = text.edition.number();
+        raw::read(edition, call, source, &text.words, &mut tokens, &mut []).need as usize
     };
     match need(&text.source) {
         0 => need(&text.source[..text.source.len() - 1]),

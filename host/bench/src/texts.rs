@@ -5,6 +5,7 @@ use cases::rng::Rng;
 use cases::words::{listed, Likeness};
 use oracle::table::{self, MAX_TABLE};
 use oracle::{Call, MAX_SOURCE};
+use quanta::Edition;
 use std::collections::HashSet;
 
 // Lengths of short word tables, for which a lexer may do without an index.
@@ -14,11 +15,14 @@ const SHORTER: usize = 128;
 // A few bytes are left for what is put behind a text to have it refused there.
 const LONGEST: usize = MAX_SOURCE - 8;
 
-/// A text with its word table and the call that reads it.
+/// A text with its word table and the call that reads it, in an edition.
 pub struct Text {
     pub name: &'static str,
+    pub edition: Edition,
     pub call: Call,
     pub source: Vec<u8>,
+    /// What the original reads in its place, if it is another: it knows edition 1 only.
+    pub twin: Option<String>,
     pub words: Vec<u8>,
 }
 
@@ -53,12 +57,7 @@ fn plain_text(name: &'static str) -> Text {
         "numbers" => filled(|| format!("{} @2026-01-31 ", 1 + rng.below(1_000_000_000))),
         _ => filled(|| format!("{} ", rng.pick(&["(", ")", ">>", "+=", ";", "-", "{", "}"]))),
     };
-    Text {
-        name,
-        call: Call::Program,
-        source: source.into_bytes(),
-        words: table::original(),
-    }
+    read_by(name, Edition::One, Call::Program, source)
 }
 
 /// Texts of words that are not in their table, which is as long as can be, or short for the last two.
@@ -92,11 +91,10 @@ fn word_text(name: &'static str, held: &[String], mut missed: Vec<String>) -> Te
     let barred: HashSet<&String> = held.iter().collect();
     missed.retain(|word| !barred.contains(word));
     let rng = &mut Rng::new(11);
+    let source = filled(|| format!("{} ", rng.pick(&missed)));
     Text {
-        name,
-        call: Call::Program,
-        source: filled(|| format!("{} ", rng.pick(&missed))).into_bytes(),
         words: table::encode(held.iter().map(String::as_str)),
+        ..read_by(name, Edition::One, Call::Program, source)
     }
 }
 
@@ -137,13 +135,22 @@ pub const GROWING: [(&str, usize); 6] = [
     ("1024-KiB", 1024),
 ];
 
-/// The text of this name that a call reads.
-pub fn call_text(name: &str) -> Option<Text> {
+/// The names of the texts on which the editions differ, measured in edition 2 only.
+pub const EDITION_2_NAMES: [&str; 3] = ["closers", "deepest", "dates"];
+pub const EDITION_2_HEADING: &str =
+    "types closed by `>>`, and dates; the original reads them with `> > ` for `>>`";
+
+/// The text of this name that a call reads in an edition.
+pub fn call_text(name: &str, edition: Edition) -> Option<Text> {
+    let of_edition_2 = EDITION_2_NAMES.into_iter().find(|known| *known == name);
+    if let (Some(name), Edition::Two) = (of_edition_2, edition) {
+        return Some(edition_2_text(name, LONGEST));
+    }
     let growing = GROWING.into_iter().find(|(known, _)| *known == name);
     if let Some((name, kib)) = growing {
         let longest = (1024 * kib).min(LONGEST);
         let source = typical::statements("contract C {\n    genesis {\n", "    }\n}\n", longest);
-        return Some(read_by(name, Call::Program, source));
+        return Some(read_by(name, edition, Call::Program, source));
     }
     let name = CALL_NAMES.into_iter().find(|known| *known == name)?;
     let rng = &mut Rng::new(13);
@@ -180,16 +187,48 @@ pub fn call_text(name: &str) -> Option<Text> {
         "expr" => (Call::Expr, typical::expressions("f(1", ")", LONGEST)),
         _ => (Call::Type, typical::types("Map<1", ">", LONGEST)),
     };
-    Some(read_by(name, call, source))
+    Some(read_by(name, edition, call, source))
 }
 
-fn read_by(name: &'static str, call: Call, source: String) -> Text {
+fn read_by(name: &'static str, edition: Edition, call: Call, source: String) -> Text {
     Text {
         name,
+        edition,
         call,
         source: source.into_bytes(),
+        twin: None,
         words: table::original(),
     }
+}
+
+// Fields whose types `>>` closes, nested as people nest them or as deeply as can be; or a list of dates.
+fn edition_2_text(name: &'static str, longest: usize) -> Text {
+    let rng = &mut Rng::new(17);
+    let (call, front, back) = match name {
+        "dates" => (Call::Expr, "f(1", ")"),
+        _ => (Call::Item, "state {\n", "}"),
+    };
+    let parts = filled_up_to(longest - front.len() - back.len(), || match name {
+        "closers" => format!("    a: {};\n", nested(rng)),
+        "deepest" => format!("    a: {}A{};\n", "A<".repeat(64), ">>".repeat(32)),
+        _ => format!(", @2{:03}-02-28", rng.below(1000)),
+    });
+    let source = format!("{front}{parts}{back}");
+    Text {
+        twin: Some(source.replace(">>", "> > ")),
+        ..read_by(name, Edition::Two, call, source)
+    }
+}
+
+fn nested(rng: &mut Rng) -> String {
+    rng.pick(&[
+        "Map<Address, Set<Amount>>",
+        "Map<Address, Map<Id, Order>>",
+        "Set<Quorum<2 of 3>>",
+        "Map<Id, Map<Address, Set<Order>> >",
+        "Set<Map<Id, Map<Address, Set<Order>>>>",
+    ])
+    .to_string()
 }
 
 // A statement whose expression has a measure of 61 to 64, by one construct.
@@ -258,16 +297,38 @@ mod tests {
     #[test]
     fn call_texts_are_accepted_but_one() {
         for name in CALL_NAMES {
-            let text = call_text(name).unwrap();
+            let text = call_text(name, Edition::One).unwrap();
             assert!(text.source.len() <= LONGEST + 1, "{name}");
             assert!(text.source.len() > LONGEST - LONGEST / 50, "{name}");
             let last = text.source.len() as u32;
             let case = Case::ample(text.call, text.source, text.words);
-            match oracle::read(&case).answer {
-                Answer::Accepted { .. } => assert!(name != "refused"),
-                Answer::Refused(refusal) => {
-                    assert_eq!((name, refusal.number, refusal.end), ("refused", 22, last));
+            for edition in [1, 2] {
+                match oracle::read(&case.clone().in_edition(edition)).answer {
+                    Answer::Accepted { .. } => assert!(name != "refused"),
+                    Answer::Refused(refusal) => {
+                        assert_eq!((name, refusal.number, refusal.end), ("refused", 22, last));
+                    }
                 }
+            }
+        }
+    }
+
+    // The oracle reads a text anew for each `>>` that it parts, so it is asked of short ones.
+    #[test]
+    fn texts_of_edition_2_are_accepted() {
+        for name in EDITION_2_NAMES {
+            assert!(call_text(name, Edition::One).is_none());
+            let text = call_text(name, Edition::Two).unwrap();
+            assert!(text.source.len() <= LONGEST, "{name}");
+            assert!(text.source.len() > LONGEST - LONGEST / 50, "{name}");
+            let short = edition_2_text(name, 4096);
+            for (source, edition) in [(short.source, 2), (short.twin.unwrap().into_bytes(), 1)] {
+                let case = Case::ample(short.call, source, short.words.clone());
+                let answer = oracle::read(&case.in_edition(edition)).answer;
+                assert!(
+                    matches!(answer, Answer::Accepted { .. }),
+                    "{name} {answer:?}"
+                );
             }
         }
     }
@@ -275,7 +336,7 @@ mod tests {
     #[test]
     fn growing_texts_are_accepted() {
         for (name, kib) in GROWING {
-            let text = call_text(name).unwrap();
+            let text = call_text(name, Edition::One).unwrap();
             let length = text.source.len();
             assert!(length <= 1024 * kib && length > 900 * kib, "{name}");
             let case = Case::ample(text.call, text.source, text.words);

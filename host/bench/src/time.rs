@@ -2,6 +2,7 @@
 
 use crate::sides::{bench_measured, records_of, tokens_of, Part, Ready, Room, Side};
 use crate::texts::{self, Text};
+use quanta::Edition;
 use std::hint::black_box;
 
 const TIGHT: Side = Side::Proved(Room::Tight);
@@ -47,13 +48,15 @@ pub fn print_lexer(rounds: usize) {
     }
 }
 
-/// Prints the five calls' table of texts, what the parsing alone takes, and how the time grows.
-pub fn print_calls(rounds: usize) {
+/// Prints the five calls' table of texts, what the parsing alone takes, and how the time grows; in edition 2 also
+/// the texts on which the editions differ.
+pub fn print_calls(rounds: usize, edition: Edition) {
     heading(rounds);
     println!("text       call        bytes   tokens  records  original      full factor     tight factor");
     let mut alone = Vec::new();
+    let text_of = |name| texts::call_text(name, edition).expect("the name is listed");
     for name in texts::CALL_NAMES {
-        let text = texts::call_text(name).expect("the name is listed");
+        let text = text_of(name);
         let whole = seconds(Part::Whole, &text, rounds, SIDES);
         let tokens = seconds(Part::Tokens, &text, rounds, SIDES);
         print_call(&text, whole);
@@ -68,8 +71,16 @@ pub fn print_calls(rounds: usize) {
     println!("\nthe same kind of program in several lengths");
     println!("text       call        bytes   tokens  records  original      full factor     tight factor");
     for (name, _) in texts::GROWING {
-        let text = texts::call_text(name).expect("the name is listed");
+        let text = text_of(name);
         print_call(&text, seconds(Part::Whole, &text, rounds, SIDES));
+    }
+    if edition == Edition::Two {
+        println!("\n{}", texts::EDITION_2_HEADING);
+        println!("text       call        bytes   tokens  records  original      full factor     tight factor");
+        for name in texts::EDITION_2_NAMES {
+            let text = text_of(name);
+            print_call(&text, seconds(Part::Whole, &text, rounds, SIDES));
+        }
     }
 }
 

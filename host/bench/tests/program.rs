@@ -25,6 +25,12 @@ fn single_calls() {
         let args = ["count", what, "4-KiB", side];
         assert_eq!(code(&args), Some(0), "{args:?}");
     }
+    for text in ["4-KiB", "closers", "deepest", "dates"] {
+        for side in ["original", "proved-full", "proved-tight"] {
+            let args = ["count", "calls", text, side, "--edition", "2"];
+            assert_eq!(code(&args), Some(0), "{args:?}");
+        }
+    }
     let stopped = [
         "count",
         "lexer",
@@ -38,9 +44,11 @@ fn single_calls() {
 
 #[test]
 fn bad_usage() {
-    let rows: [&[&str]; 9] = [
+    let rows: [&[&str]; 11] = [
         &[],
         &["parser"],
+        &["count", "calls", "4-KiB", "original", "--edition", "3"],
+        &["count", "calls", "closers", "original"],
         &["calls", "--rounds", "0"],
         &["count", "calls", "cjk", "original"],
         &["count", "parser", "typical", "original"],

@@ -91,6 +91,7 @@ fn empty() -> impl Iterator<Item = Case> {
                 .into_iter()
                 .flat_map(move |words| {
                     (0..=2 * TREE_WORDS).map(move |tree_words| Case {
+                        edition: 1,
                         call,
                         source: text.into(),
                         words: words.clone(),

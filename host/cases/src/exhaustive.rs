@@ -26,6 +26,12 @@ impl Strings {
         Strings::over(tokens, b" ", longest)
     }
 
+    /// Strings of tokens, given with blanks between, with nothing between them, so that some join.
+    pub fn of_tight_tokens(tokens: &str, longest: usize) -> Strings {
+        let tokens = tokens.split_whitespace().map(Vec::from).collect();
+        Strings::over(tokens, b"", longest)
+    }
+
     fn over(alphabet: Vec<Vec<u8>>, between: &'static [u8], longest: usize) -> Strings {
         Strings {
             alphabet,
@@ -102,8 +108,8 @@ pub fn token_strings(most: usize) -> impl Iterator<Item = Case> {
         })
 }
 
-// The greatest length for which the strings over so many letters are not more than `most`.
-fn longest(letters: usize, most: usize) -> usize {
+/// The greatest length for which the strings over so many letters are not more than `most`.
+pub fn longest(letters: usize, most: usize) -> usize {
     let (mut length, mut count) = (0, 1);
     while count * letters < most {
         count = count * letters + 1;

@@ -2,8 +2,11 @@
 
 mod blocks;
 pub mod choice;
+pub mod closers;
 mod damage;
+pub mod days;
 pub mod edges;
+mod editions;
 pub mod edits;
 pub mod exhaustive;
 mod grammar;
@@ -38,11 +41,12 @@ pub enum Kind {
     All,
     Words,
     Blocks,
+    Editions,
 }
 
 impl Kind {
     /// The kinds with their names; `all` is a mixture of those before it.
-    pub const NAMES: [(Kind, &'static str); 10] = [
+    pub const NAMES: [(Kind, &'static str); 11] = [
         (Kind::Grammar, "grammar"),
         (Kind::Depth, "depth"),
         (Kind::Damage, "damage"),
@@ -53,6 +57,7 @@ impl Kind {
         (Kind::All, "all"),
         (Kind::Words, "words"),
         (Kind::Blocks, "blocks"),
+        (Kind::Editions, "editions"),
     ];
 
     pub fn from_name(name: &str) -> Option<Kind> {
@@ -78,6 +83,10 @@ fn case_of(kind: Kind, rng: &mut Rng, size: usize) -> Case {
         Kind::All => case_of(mixed_kind(rng), rng, size),
         Kind::Words => with_any_room(words::case(rng), rng),
         Kind::Blocks => with_any_room(blocks::case(rng), rng),
+        Kind::Editions => {
+            let case = with_any_room(editions::case(rng, size), rng);
+            around_room(case, rng)
+        }
     }
 }
 
@@ -229,10 +238,15 @@ fn bytes_case(rng: &mut Rng) -> Case {
     with_any_room(Case::ample(call, source, Vec::new()), rng)
 }
 
-// Rooms around the counts that the case needs.
 fn room_case(rng: &mut Rng, size: usize) -> Case {
-    let mut case = grammar_case(rng, size);
-    let ample = Case::ample(case.call, case.source.clone(), Vec::new());
+    let case = grammar_case(rng, size);
+    around_room(case, rng)
+}
+
+// Rooms around the counts that the case needs.
+fn around_room(mut case: Case, rng: &mut Rng) -> Case {
+    let ample = Case::ample(case.call, case.source.clone(), case.words.clone());
+    let ample = ample.in_edition(case.edition);
     if let Answer::Accepted { tokens, records } = oracle::read(&ample).answer {
         case.token_words = words_around(tokens as usize, TOKEN_WORDS, ample.token_words, rng);
         case.tree_words = words_around(records as usize, TREE_WORDS, ample.tree_words, rng);

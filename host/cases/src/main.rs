@@ -8,7 +8,7 @@ const USAGE: &str = "\
 cases: writes a stream of framed cases for the readers
 
 usage: cases --seed N --count N [--kind KIND] [--size N]
-       cases --kind scalars | tokens | edits | nesting | edges
+       cases --kind scalars | tokens | edits | nesting | edges | closers | days
        cases --exhaustive LEN [--alphabet STR] [--call CALL]
        cases --stored
        cases --readings

@@ -3,9 +3,10 @@
 //! A line is one reading. Its fields are parted by one blank, and a LF ends it:
 //!
 //! ```text
-//! CALL TABLE SOURCE TOKEN_WORDS TREE_WORDS number start end wanted found need tokens records TOKENS TREE
+//! EDITION CALL TABLE SOURCE TOKEN_WORDS TREE_WORDS number start end wanted found need tokens records TOKENS TREE
 //! ```
 //!
+//! - EDITION is any u32; 1 and 2 are known.
 //! - CALL is 0 for program, 1 item, 2 stmt, 3 expr, 4 type.
 //! - TABLE and SOURCE are bytes, two lower-case hexadecimal digits each; `-` is none. `HEX*N` is those bytes N times.
 //! - TOKEN_WORDS and TREE_WORDS are the lengths of the lent buffers, in u32.
@@ -77,6 +78,37 @@ const LEXICAL: [&[u8]; 12] = [
 #[rustfmt::skip]
 const BAD_TABLES: [&[u8]; 6] = [b"F", b"FW\0", b"FX\x01a", b"FW\x01aFW\x02b", b"FW\x011", b"FW\x01bFW\x02\xC3\xA4"];
 
+/// Texts that tell the editions apart, or that only look so.
+#[rustfmt::skip]
+const BY_EDITION: [(Call, &[&str]); 5] = [
+    (Call::Program, &[
+        "contract C{state{a:A<B<C>>;}entry e(a:A<B<C>>){}}", "contract C{state{a:A<B>>;}}", "contract C{invariant a<@2024-06-31;}",
+        "contract C{invariant a<@2024-06-30;}",
+    ]),
+    (Call::Item, &[
+        "state{a:A<B<C>>=1;}", "state{a:A<B<C>>;b:A<B<1 of 2>>=c>>d;}", "state{a:A>>;}", "state{a:A<B>>;}", "state{a:A<B>>=1;}",
+        "state{a:A<B<C<D>>>=1;}", "state{a:Set<A>= 1;}", "event E(a:A<B<C>>);", "event E(a:A<B<C>>signed by b,c:sealed A<B<C<D>>>);",
+        "event E(a:A<B>>);", "event E(a:A>>);", "entry e(a:A<B>>){}", "entry e()limits a<b>>c{}", "state{a:A=@2023-02-29;}",
+    ]),
+    (Call::Stmt, &["a = @2024-04-31;", "a = @2024-04-30;", "a = b < c >> d;"]),
+    (Call::Expr, &[
+        "@2024-02-29", "@2024-02-30", "@2023-02-29", "@1900-02-29", "@1600-02-29", "@0000-02-29", "@0000-00-00", "@0000-01-00", "@0000-13-01",
+        "@9999-12-31", "@9999-12-32", "2024-02-30", "@2024-02-301", "@2024-02-30x", "00 @2024-02-30", "@2024-02-30 00", ") @2024-02-30",
+        "@2024-02-30 \r", "@2024-02-30 \u{AD}", "@2024-02-30#", "# @2024-02-30", "@2024-02-30 \"a", "\"@2024-02-30\" //@2024-02-30",
+        "f(@2024-02-29, @2024-02-30)", "@2024-02-30 msg", "a<b>>c",
+    ]),
+    (Call::Type, &[
+        "A<B<C>>", "A<B<1>>", "A<B<1 of 2>>", "A<B<C<D<E>>>>", "A<B<C<D> >>", "A<B<C>,D<E>>", "A<1>>", "A<1 of 2>>", "A<>>", "A<B,>>", "A<1 of>>",
+        "A>>", "A<B>>", "A<B>>>", "A<B>> x", "A<B<C>>>", "A<B<C>>>>", "A<@2024-04-31>", "A<B<C>>@2024-04-31",
+    ]),
+];
+
+/// A day, to be repeated.
+const DATE: &[u8] = b"@2024-02-29";
+
+/// Editions that there are not.
+const UNKNOWN: [u32; 5] = [0, 3, 256, 2_147_483_650, 4_294_967_295];
+
 /// The list.
 pub fn list() -> String {
     cases().iter().map(line).collect()
@@ -106,6 +138,7 @@ impl Written {
         };
         Written {
             case: Case {
+                edition: 1,
                 call,
                 source: source.0.repeat(source.1),
                 words: words.0.repeat(words.1),
@@ -139,6 +172,7 @@ fn cases() -> Vec<Written> {
     }
     let generated = stored::chosen().into_iter().map(|(case, _)| case);
     list.extend(generated.filter(|case| case.source.len() <= SHORT && case.words.len() <= SHORT));
+    list.extend(by_edition());
     let mut written: Vec<_> = list.into_iter().map(Written::whole).collect();
     for call in Call::ALL {
         written.push(Written::repeated(call, (b" ", MAX_SOURCE + 1), (b"", 1)));
@@ -153,8 +187,41 @@ fn cases() -> Vec<Written> {
             (b"a", 1),
             (b"FW\x01b", table::MAX_TABLE / 4),
         ));
+        let dates = MAX_SOURCE / DATE.len();
+        let in_edition_2 = [
+            (&b" "[..], MAX_SOURCE + 1),
+            (b" ", MAX_SOURCE),
+            (DATE, dates),
+        ];
+        for source in in_edition_2 {
+            let mut repeated = Written::repeated(call, source, (b"", 1));
+            repeated.case.edition = 2;
+            written.push(repeated);
+        }
     }
     written
+}
+
+// Both editions, and unknown ones: of a text that is accepted, and before the refusal of a table.
+fn by_edition() -> Vec<Case> {
+    let mut list = Vec::new();
+    for (call, texts) in BY_EDITION {
+        for text in texts {
+            let case = Case::ample(call, text.as_bytes().to_vec(), Vec::new());
+            list.extend([case.clone(), case.in_edition(2)]);
+        }
+        let accepted = Case::ample(call, texts[0].into(), Vec::new());
+        for edition in UNKNOWN {
+            list.push(accepted.clone().in_edition(edition));
+        }
+        list.push(Case::ample(call, b"a".to_vec(), b"F".to_vec()).in_edition(0));
+    }
+    let deep = "A<".repeat(65) + ">>";
+    let deep = Case::ample(Call::Type, deep.into_bytes(), Vec::new());
+    list.extend([deep.clone(), deep.in_edition(2)]);
+    let parted = Case::ample(Call::Type, b"A<B<C>>".to_vec(), Vec::new());
+    list.extend(with_rooms(parted.in_edition(2)));
+    list
 }
 
 // Rooms for none, one word too few, exactly and one word more, in both buffers.
@@ -191,7 +258,7 @@ fn line(written: &Written) -> String {
         Answer::Accepted { tokens, records } => [0, 0, 0, 0, 0, 0, tokens, records],
         Answer::Refused(r) => [r.number, r.start, r.end, r.wanted, r.found, r.need, 0, 0],
     };
-    let mut out = format!("{} {table} {source} ", case.call as usize);
+    let mut out = format!("{} {} {table} {source} ", case.edition, case.call as usize);
     write!(out, "{} {}", case.token_words, case.tree_words).expect("a String takes every write");
     let sums = [sum(&outcome.tokens), sum(&outcome.tree)];
     for number in numbers.into_iter().chain(sums) {

@@ -8,14 +8,15 @@ use std::hash::Hash;
 const SEED: u64 = 1;
 const TRIED: u64 = 6000;
 const LONGEST: usize = 180;
-const EACH: u32 = 3;
-const KINDS: [Kind; 6] = [
-    Kind::Grammar,
-    Kind::Depth,
-    Kind::Damage,
-    Kind::Tables,
-    Kind::Room,
-    Kind::Bytes,
+/// The kinds, and how many cases of each answer are kept.
+const KINDS: [(Kind, u32); 7] = [
+    (Kind::Grammar, 3),
+    (Kind::Depth, 3),
+    (Kind::Damage, 3),
+    (Kind::Tables, 3),
+    (Kind::Room, 3),
+    (Kind::Bytes, 3),
+    (Kind::Editions, 1),
 ];
 
 /// The list as a stream of frames.
@@ -28,11 +29,11 @@ pub fn list() -> Vec<u8> {
     out
 }
 
-/// A few cases for each of these kinds, each call, verdict and kind of record, with short sources and tables.
+/// A few cases for each of these kinds, each edition, call, verdict and kind of record, with short sources and tables.
 pub fn chosen() -> Vec<(Case, Outcome)> {
     let mut list = Vec::new();
     let mut nodes = HashMap::new();
-    for kind in KINDS {
+    for (kind, each) in KINDS {
         let mut kept = HashMap::new();
         for index in 0..TRIED {
             let case = case(kind, SEED, index, 1);
@@ -40,11 +41,12 @@ pub fn chosen() -> Vec<(Case, Outcome)> {
                 continue;
             }
             let outcome = oracle::read(&case);
-            let new_verdict = few(&mut kept, (case.call.name(), verdict(&outcome)));
+            let asked = (case.edition, case.call.name());
+            let new_verdict = few(&mut kept, (asked, verdict(&outcome)), each);
             let new_node = outcome
                 .tree
                 .chunks_exact(TREE_WORDS)
-                .filter(|r| few(&mut nodes, r[0]))
+                .filter(|r| few(&mut nodes, r[0], each))
                 .count()
                 > 0;
             if new_verdict || new_node {
@@ -56,10 +58,10 @@ pub fn chosen() -> Vec<(Case, Outcome)> {
 }
 
 // Counts this one; true for the first few.
-fn few<K: Eq + Hash>(counts: &mut HashMap<K, u32>, key: K) -> bool {
+fn few<K: Eq + Hash>(counts: &mut HashMap<K, u32>, key: K, each: u32) -> bool {
     let count = counts.entry(key).or_insert(0);
     *count += 1;
-    *count <= EACH
+    *count <= each
 }
 
 fn is_short(case: &Case) -> bool {

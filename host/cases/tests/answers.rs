@@ -1,7 +1,7 @@
 //! The answers to a fixed stream of mixed cases: their digest, what occurs in them, and what holds of all.
 
 use cases::{case, stored, Kind, DEFAULT_SIZE};
-use oracle::{frame, Answer, Case, Outcome, TOKEN_WORDS, TREE_WORDS};
+use oracle::{frame, Answer, Case, Outcome, Refusal, TOKEN_WORDS, TREE_WORDS};
 
 const SEED: u64 = 2024;
 const COUNT: u64 = 20_000;
@@ -9,8 +9,12 @@ const COUNT: u64 = 20_000;
 const DIGEST: u64 = 0x7A55_AAC1_2187_E982;
 
 fn outcomes(count: u64) -> impl Iterator<Item = (Case, Outcome)> {
-    (0..count).map(|index| {
-        let case = case(Kind::All, SEED, index, DEFAULT_SIZE);
+    outcomes_of(Kind::All, count)
+}
+
+fn outcomes_of(kind: Kind, count: u64) -> impl Iterator<Item = (Case, Outcome)> {
+    (0..count).map(move |index| {
+        let case = case(kind, SEED, index, DEFAULT_SIZE);
         let outcome = oracle::read(&case);
         (case, outcome)
     })
@@ -49,7 +53,7 @@ const OWN_KINDS: [&[u32]; 40] = [
 
 #[derive(Default)]
 struct Seen {
-    verdicts: [u32; 24],
+    verdicts: [u32; 30],
     tokens: Vec<u32>,
     nodes: Vec<u32>,
     calls: [u32; 5],
@@ -73,10 +77,10 @@ impl Seen {
         }
     }
 
-    // Every answer, call, tree kind and token kind was seen.
+    // Every answer of edition 1, call, tree kind and token kind was seen.
     fn assert_all(&self) {
         let all = [
-            &self.verdicts[..],
+            &self.verdicts[..24],
             &self.calls,
             &self.nodes[1..],
             &self.tokens[1..],
@@ -93,7 +97,10 @@ fn every_number_and_kind_occurs() {
     for (case, outcome) in outcomes(COUNT) {
         seen.add(&case, &outcome);
     }
-    println!("accepted, then refusals 1 to 23: {:?}", seen.verdicts);
+    println!(
+        "accepted, then refusals 1 to 23: {:?}",
+        &seen.verdicts[..24]
+    );
     println!("calls: {:?}", seen.calls);
     println!("tree kinds from 1: {:?}", &seen.nodes[1..]);
     println!("token kinds from 1: {:?}", &seen.tokens[1..]);
@@ -121,11 +128,12 @@ fn stored_list_holds_every_number_and_kind() {
     }
     seen.verdicts[2] = 1;
     seen.assert_all();
+    assert!(seen.verdicts[28..].iter().all(|count| *count > 0));
 }
 
 #[test]
 fn facts_of_every_outcome() {
-    for (case, outcome) in outcomes(6000) {
+    for (case, outcome) in outcomes(6000).chain(outcomes_of(Kind::Editions, 6000)) {
         let text = String::from_utf8_lossy(&case.source);
         let tokens = standing(&outcome.tokens, TOKEN_WORDS);
         assert!(tokens.len() <= case.source.len() + 1, "{text}");
@@ -149,6 +157,39 @@ fn facts_of_every_outcome() {
             check_spans(&tree, &tokens, &text);
         }
     }
+}
+
+// Whatever both editions accept has the same records; what edition 1 accepts edition 2 accepts, unless some date is
+// no day.
+#[test]
+fn editions_together() {
+    let mut counts = [0; 4];
+    for index in 0..20_000 {
+        let case = case(Kind::Editions, SEED, index, DEFAULT_SIZE);
+        let text = String::from_utf8_lossy(&case.source).into_owned();
+        let read = |edition| oracle::read(&case.clone().in_edition(edition));
+        let (one, two) = (read(1), read(2));
+        let sort = match (one.answer, two.answer) {
+            (Answer::Accepted { .. }, Answer::Accepted { .. }) => {
+                assert_eq!(one, two, "{text}");
+                0
+            }
+            (Answer::Accepted { .. }, Answer::Refused(refusal)) => {
+                assert_eq!(refusal.number, 28, "{text}");
+                assert!(case.source[refusal.start as usize..].starts_with(b"@"));
+                1
+            }
+            (Answer::Refused(refusal), Answer::Accepted { .. }) => {
+                let Refusal { wanted, found, .. } = refusal;
+                assert_eq!((refusal.number, wanted, found), (12, 53, 61), "{text}");
+                2
+            }
+            (Answer::Refused(_), Answer::Refused(_)) => 3,
+        };
+        counts[sort] += 1;
+    }
+    println!("accepted by both, by 1, by 2, by none: {counts:?}");
+    assert!(counts.iter().all(|count| *count > 400), "{counts:?}");
 }
 
 // The lexical part of an answer is its refusal up to 11, or the tokens alone.

@@ -1,7 +1,9 @@
 //! What the generator promises: grammatical texts, exact measures, the same bytes for the same seed.
 
 use cases::exhaustive::{token_strings, Strings};
-use cases::{case, edges, edits, measured_case, nesting, scalars, Kind, DEFAULT_SIZE};
+use cases::{
+    case, closers, days, edges, edits, measured_case, nesting, scalars, Kind, DEFAULT_SIZE,
+};
 use oracle::{frame, Answer, Call, Case, TOKEN_WORDS, TREE_WORDS};
 use std::collections::BTreeSet;
 
@@ -215,4 +217,55 @@ fn edges_are_on_both_sides() {
             assert!(seen.contains(&(call.name(), wanted)), "{wanted}");
         }
     }
+}
+
+#[test]
+fn tight_strings_of_tokens() {
+    let strings: Vec<Vec<u8>> = Strings::of_tight_tokens("a >>", 2).collect();
+    let expected: [&[u8]; 7] = [b"", b"a", b">>", b"aa", b"a>>", b">>a", b">>>>"];
+    assert_eq!(strings, expected);
+}
+
+// In edition 2 each place has accepted types that edition 1 refuses, and refusals at a second closer.
+#[test]
+fn closers_are_tried_at_each_place() {
+    let mut seen = BTreeSet::new();
+    for case in closers::strings(3000).chain(closers::joined().step_by(25)) {
+        let (one, two) = (number(&case), number(&case.clone().in_edition(2)));
+        let front: &[u8] = match case.source.first_chunk() {
+            Some(front @ (b"state{" | b"event ")) => front,
+            _ => b"",
+        };
+        seen.insert((case.call.name(), front.to_vec(), one, two));
+    }
+    for (call, front) in [("type", &b""[..]), ("item", b"state{"), ("item", b"event ")] {
+        let refused = if call == "type" { 22 } else { 12 };
+        for numbers in [(0, 0), (12, 0), (12, refused), (18, 18)] {
+            let wanted = (call, front.to_vec(), numbers.0, numbers.1);
+            assert!(seen.contains(&wanted), "{wanted:?}");
+        }
+    }
+    assert!(seen
+        .iter()
+        .any(|(call, _, one, two)| (*call, *one, *two) == ("program", 12, 0)));
+    assert!(seen.iter().any(|(_, _, one, two)| (*one, *two) == (12, 20)));
+}
+
+// As many days as these years have; every year has three dates at its February's end.
+#[test]
+fn days_are_on_both_sides() {
+    let cases: Vec<Case> = days::all().collect();
+    let around = days::YEARS.len() * 14 * 33;
+    assert_eq!(cases.len(), around + 10_000 * 3 + 100 * 100);
+    assert!(cases.iter().step_by(37).all(|case| number(case) == 0));
+    let days = |cases: &[Case]| {
+        let accepted = cases
+            .iter()
+            .filter(|case| number(&(*case).clone().in_edition(2)) == 0);
+        accepted.count()
+    };
+    assert_eq!(days(&cases[..around]), 4 * 366 + 3 * 365);
+    let leap_years = 25 * 97;
+    assert_eq!(days(&cases[around..around + 30_000]), 10_000 + leap_years);
+    assert_eq!(days(&cases[around + 30_000..]), 366);
 }

@@ -95,6 +95,7 @@ impl Pair {
 
 fn show(out: &mut impl Write, title: &str, case: &Case, answers: &Answers) -> Result<(), String> {
     let Case {
+        edition,
         call,
         source,
         words,
@@ -103,7 +104,7 @@ fn show(out: &mut impl Write, title: &str, case: &Case, answers: &Answers) -> Re
     } = case;
     let mut text = format!("--- {title}\n");
     text += &format!(
-        "call {}, {token_words} token words, {tree_words} tree words\n",
+        "edition {edition}, call {}, {token_words} token words, {tree_words} tree words\n",
         call.name()
     );
     text += &format!("source \"{}\"\n", source.escape_ascii());

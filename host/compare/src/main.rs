@@ -10,19 +10,19 @@ const USAGE: &str = "\
 compare: feeds the same cases to two readers and compares their whole answers
 
 usage: compare LEFT RIGHT --seed N --count N [--kind KIND] [--size N]
-       compare LEFT RIGHT --kind scalars | tokens | edits | nesting | edges
+       compare LEFT RIGHT --kind scalars | tokens | edits | nesting | edges | closers | days
        compare LEFT RIGHT --exhaustive LEN [--alphabet STR] [--call CALL]
        compare LEFT RIGHT --stream FILE
 
 LEFT, RIGHT       readers:
-                  oracle         the original
+                  oracle         the original; in edition 2 what is made of its answers
                   lexical        the original as far as the tokens: refusals 1 to 11, or
-                                 `A tokens 0`, and the token buffer
+                                 `A tokens 0`, and the token buffer; always in edition 1
                   proved         the five proved calls
-                  proved-lexer   the proved crates as far as the tokens
+                  proved-lexer   the proved crates as far as the tokens; always in edition 1
                   cmd:PROGRAM ARGS   a program that takes framed cases on standard input
                                  and writes the whole answer to each at once
---stream FILE     the cases of a file with framed cases
+--stream FILE     the cases of a file with framed cases, in their own editions
 ";
 const REST: &str = "\
 The first disagreements are shown whole, then the first one made smaller.

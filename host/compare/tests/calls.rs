@@ -1,7 +1,7 @@
 //! The five proved calls against the original: answers and every word of both buffers. A sample of compare/calls.sh.
 
 use cases::exhaustive::{token_strings, Strings, DEFAULT_ALPHABET};
-use cases::{case, edges, edits, nesting, stored, Kind, DEFAULT_SIZE};
+use cases::{case, closers, days, edges, edits, nesting, stored, Kind, DEFAULT_SIZE};
 use compare::{reader, Pair};
 use oracle::{Call, Case};
 
@@ -69,4 +69,43 @@ fn limits() {
     let (long, short): (Vec<_>, Vec<_>) = edges::all().partition(is_long);
     agree(short.into_iter());
     agree(long.into_iter().step_by(2));
+}
+
+// The lists on which the editions differ, in both.
+#[test]
+fn closers_and_days() {
+    for edition in [1, 2] {
+        let closed = closers::strings(4_000).chain(closers::joined().step_by(10));
+        agree(closed.map(|case| case.in_edition(edition)));
+        agree(days::all().map(|case| case.in_edition(edition)));
+    }
+}
+
+// The other lists, in edition 2.
+#[test]
+fn edition_2() {
+    for (place, (kind, _)) in Kind::NAMES.into_iter().enumerate() {
+        let count = match kind {
+            Kind::Limits => 20,
+            Kind::Words => 2_000,
+            _ => 20_000,
+        };
+        let seed = 3000 + place as u64;
+        let cases = (0..count).map(|index| case(kind, seed, index, DEFAULT_SIZE));
+        agree(cases.map(|case| case.in_edition(2)));
+    }
+    let nested = nesting::all().map(|nested| nested.case);
+    let edited = Call::ALL.into_iter().flat_map(edits::of);
+    let short = edges::all().filter(|case| case.source.len() <= 1000);
+    let lists = nested.step_by(5).chain(edited.step_by(7)).chain(short);
+    let lists = lists.chain(token_strings(10_000));
+    agree(lists.map(|case| case.in_edition(2)));
+}
+
+#[test]
+fn unknown_editions() {
+    let lists = edges::all().chain(nesting::all().map(|nested| nested.case));
+    let editions = [0, 3, 256, 1 << 16, 1 << 31, u32::MAX].into_iter().cycle();
+    let cases = lists.step_by(7).zip(editions);
+    agree(cases.map(|(case, edition)| case.in_edition(edition)));
 }

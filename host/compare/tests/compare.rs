@@ -1,6 +1,6 @@
 //! The comparison finds a reader that differs, and makes its input small.
 
-use cases::{case, Kind, DEFAULT_SIZE};
+use cases::{case, closers, days, Kind, DEFAULT_SIZE};
 use compare::{minimised, reader, Pair, Reader};
 use oracle::{Answer, Call, Case, Outcome};
 
@@ -83,5 +83,24 @@ fn inputs_become_small() {
 fn readers_that_cannot_be() {
     for name in ["nothing", "cmd:", "cmd:/no/such/program"] {
         assert!(reader(name).is_err(), "{name}");
+    }
+}
+
+// A reader that knows edition 1 only is found by the lists on which the editions differ.
+#[test]
+fn an_edition_that_is_not_read_is_found() {
+    let lists: [(Box<dyn Iterator<Item = Case>>, &str); 2] = [
+        (Box::new(closers::strings(200)), "call type"),
+        (Box::new(days::all()), "source \"@0000-00-00\""),
+    ];
+    for (list, first) in lists {
+        let in_edition_1 = |case: &Case| oracle::read(&case.clone().in_edition(1));
+        let mut shown = Vec::new();
+        let cases = list.map(|case| Ok(case.in_edition(2)));
+        let count = against_the_oracle(Box::new(in_edition_1)).compare(cases, &mut shown);
+        assert!(count.unwrap().disagreements > 0);
+        let shown = String::from_utf8(shown).unwrap();
+        assert!(shown.contains("edition 2, call "), "{shown}");
+        assert!(shown.contains(first), "{shown}");
     }
 }

@@ -1,15 +1,16 @@
 //! The fuzz target: any bytes are a case, and the proved calls must answer it as the original does.
 //!
-//! An input is four bytes, a word table and a source. The first byte modulo 5 is the call; the second is the
-//! table's length, as far as there are bytes; the third and the fourth are the lengths of the token and of the
-//! tree buffer: below 128 ample room and so many words modulo 8 more, from 128 on that less 128 in words.
+//! An input is five bytes, a word table and a source. The first byte is the edition: 1 where it is even, 2 where it
+//! is odd, but 254 and 255 are unknown ones. The second modulo 5 is the call; the third is the table's length, as
+//! far as there are bytes; the fourth and the fifth are the lengths of the token and of the tree buffer: below 128
+//! ample room and so many words modulo 8 more, from 128 on that less 128 in words.
 
 use compare::{reader, Pair};
 use oracle::{Answer, Call, Case, Outcome, TREE_WORDS};
 use std::sync::atomic::{AtomicU8, Ordering};
 use std::sync::LazyLock;
 
-const HEADER: usize = 4;
+const HEADER: usize = 5;
 
 /// The case of an input.
 pub fn case(input: &[u8]) -> Case {
@@ -17,11 +18,17 @@ pub fn case(input: &[u8]) -> Case {
     let given = input.len().min(HEADER);
     header[..given].copy_from_slice(&input[..given]);
     let rest = &input[given..];
-    let (words, source) = rest.split_at(rest.len().min(usize::from(header[1])));
-    let call = Call::ALL[usize::from(header[0]) % Call::ALL.len()];
+    let [edition, call, table_length, token_room, tree_room] = header;
+    let (words, source) = rest.split_at(rest.len().min(usize::from(table_length)));
+    let call = Call::ALL[usize::from(call) % Call::ALL.len()];
     let mut case = Case::ample(call, source.to_vec(), words.to_vec());
-    case.token_words = room(header[2], case.token_words);
-    case.tree_words = room(header[3], case.tree_words);
+    case.edition = match edition {
+        254 => 0,
+        255 => u32::MAX,
+        _ => 1 + u32::from(edition) % 2,
+    };
+    case.token_words = room(token_room, case.token_words);
+    case.tree_words = room(tree_room, case.tree_words);
     case
 }
 
@@ -32,10 +39,10 @@ fn room(byte: u8, ample: usize) -> usize {
     }
 }
 
-/// The input of a case with ample room, if its table is short enough.
-pub fn input(call: Call, source: &[u8], words: &[u8]) -> Option<Vec<u8>> {
+/// The input of a case of edition 1 or 2 with ample room, if its table is short enough.
+pub fn input(edition: u8, call: Call, source: &[u8], words: &[u8]) -> Option<Vec<u8>> {
     let length = u8::try_from(words.len()).ok()?;
-    Some([&[call as u8, length, 0, 0], words, source].concat())
+    Some([&[edition - 1, call as u8, length, 0, 0], words, source].concat())
 }
 
 /// Compares both readers on an input; where they differ, says how, and on which smaller case.
@@ -70,7 +77,7 @@ fn mark(case: &Case, outcome: &Outcome) {
     let call = case.call as u32;
     match outcome.answer {
         _ if *CODE_ONLY => {}
-        Answer::Refused(r) => seen(&[call, r.number, r.wanted, r.found]),
+        Answer::Refused(r) => seen(&[case.edition, call, r.number, r.wanted, r.found]),
         Answer::Accepted { .. } => {
             let mut before = 0;
             for record in outcome.tree.chunks_exact(TREE_WORDS) {

@@ -37,6 +37,12 @@ impl Args {
         Ok(Some(number))
     }
 
+    /// Takes the option `--edition`, whose value is any u32: an edition that is unknown has its refusal.
+    pub fn edition(&mut self) -> Result<Option<u32>, String> {
+        let number = self.number("--edition")?.map(u32::try_from).transpose();
+        number.map_err(|_| "--edition needs a number of 32 bits".to_string())
+    }
+
     /// The operands; every option must have been taken before.
     pub fn operands<const N: usize>(self) -> Result<[String; N], String> {
         let operands = self.any_operands()?;

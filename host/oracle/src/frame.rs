@@ -2,7 +2,8 @@
 //!
 //! A case is the line `C CALL SOURCE_BYTES TABLE_BYTES TOKEN_WORDS TREE_WORDS`,
 //! then exactly the source bytes, the table bytes and one LF. CALL is program,
-//! item, stmt, expr or type.
+//! item, stmt, expr or type; a number before it is the edition, which is 1
+//! where none stands there.
 //!
 //! An answer is these lines: `A tokens records`, or `R` and the six numbers of
 //! the refusal; `T kind start end` for each token record that stands in its
@@ -23,9 +24,13 @@ pub fn write_case(case: &Case, out: &mut impl Write) -> std::io::Result<()> {
     let (source, table) = (&case.source, &case.words);
     let name = case.call.name();
     let (token_words, tree_words) = (case.token_words, case.tree_words);
+    out.write_all(b"C ")?;
+    if case.edition != 1 {
+        write!(out, "{} ", case.edition)?;
+    }
     writeln!(
         out,
-        "C {name} {} {} {token_words} {tree_words}",
+        "{name} {} {} {token_words} {tree_words}",
         source.len(),
         table.len()
     )?;
@@ -110,7 +115,7 @@ impl<R: BufRead> Frames<R> {
         if header.is_empty() {
             return Ok(None);
         }
-        let (call, [source, table, token_words, tree_words]) = header_fields(&header)
+        let (edition, call, [source, table, token_words, tree_words]) = header_fields(&header)
             .ok_or_else(|| bad(start, "no case header `C CALL and four lengths`"))?;
         let source = self.bytes(source, "the source")?;
         let words = self.bytes(table, "the word table")?;
@@ -119,6 +124,7 @@ impl<R: BufRead> Frames<R> {
             return Err(bad(end, "no LF behind the case"));
         }
         Ok(Some(Case {
+            edition,
             call,
             source,
             words,
@@ -169,13 +175,18 @@ fn bad(offset: u64, what: &str) -> String {
     format!("bad frame at byte {offset}: {what}")
 }
 
-fn header_fields(header: &[u8]) -> Option<(Call, [usize; 4])> {
+fn header_fields(header: &[u8]) -> Option<(u32, Call, [usize; 4])> {
     let header = std::str::from_utf8(header).ok()?.strip_suffix('\n')?;
-    let mut fields = header.strip_prefix("C ")?.split(' ');
+    let mut fields = header.strip_prefix("C ")?.split(' ').peekable();
+    let edition = fields.peek()?.parse();
+    if edition.is_ok() {
+        fields.next();
+    }
     let call = Call::from_name(fields.next()?)?;
     let mut lengths = [0; 4];
     for length in &mut lengths {
         *length = fields.next()?.parse().ok().filter(|n| *n <= MAX_LENGTH)?;
     }
-    fields.next().is_none().then_some((call, lengths))
+    let whole = (edition.unwrap_or(1), call, lengths);
+    fields.next().is_none().then_some(whole)
 }

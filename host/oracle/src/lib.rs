@@ -2,9 +2,12 @@
 //!
 //! Tokens, trees, spans and refusals 4 to 10 and 12 to 22 come from the
 //! original's own functions. Refusals 1, 2, 3, 11 and 23, the lent word table
-//! and the two buffers are document 01's additions and are made here.
+//! and the two buffers are document 01's additions and are made here. The
+//! original reads edition 1; edition 2 is made from its answers (`edition`).
 
 pub mod args;
+mod days;
+mod edition;
 pub mod frame;
 pub mod kinds;
 mod lex;
@@ -15,6 +18,7 @@ mod tree;
 pub use refusal::Refusal;
 
 use quanta_lexer::Token;
+use std::collections::HashSet;
 
 /// The longest source, in bytes.
 pub const MAX_SOURCE: usize = 1_048_576;
@@ -59,6 +63,7 @@ impl Call {
 /// One call with all its inputs; the two lengths are those of the lent u32 buffers, in words.
 #[derive(Clone, Debug, PartialEq, Eq)]
 pub struct Case {
+    pub edition: u32,
     pub call: Call,
     pub source: Vec<u8>,
     pub words: Vec<u8>,
@@ -67,16 +72,22 @@ pub struct Case {
 }
 
 impl Case {
-    /// A case with room for as many tokens and records as a source of this length can have.
+    /// A case of edition 1 with room for as many tokens and records as a source of this length can have.
     pub fn ample(call: Call, source: Vec<u8>, words: Vec<u8>) -> Case {
         let most = source.len() + 1;
         Case {
+            edition: 1,
             call,
             source,
             words,
             token_words: TOKEN_WORDS * most,
             tree_words: TREE_WORDS * most,
         }
+    }
+
+    /// The same case in this edition.
+    pub fn in_edition(self, edition: u32) -> Case {
+        Case { edition, ..self }
     }
 }
 
@@ -94,7 +105,7 @@ pub struct Outcome {
     pub tree: Vec<u32>,
 }
 
-/// Reads a case as document 01 says.
+/// Reads a case as document 01 says, and in edition 2 document 02.
 pub fn read(case: &Case) -> Outcome {
     let mut tokens = vec![0; case.token_words];
     let mut tree = vec![0; case.tree_words];
@@ -109,10 +120,11 @@ pub fn read(case: &Case) -> Outcome {
     }
 }
 
-/// Reads a case as far as its tokens: refusals 1 to 11, or accepted with no records. There is no tree buffer.
+/// Reads a case as far as its tokens, in edition 1 whatever its own is: refusals 1 to 11, or accepted with no
+/// records. There is no tree buffer.
 pub fn read_lexical(case: &Case) -> Outcome {
     let mut tokens = vec![0; case.token_words];
-    let answer = match fill_tokens(case, &mut tokens) {
+    let answer = match fill_tokens(case, &ONE, &mut tokens) {
         Ok(lexed) => Answer::Accepted {
             tokens: lexed.tokens.len() as u32,
             records: 0,
@@ -126,10 +138,31 @@ pub fn read_lexical(case: &Case) -> Outcome {
     }
 }
 
+/// What an edition reads by: the tokens of a source, and the tree records of a text with these tokens.
+struct Rules {
+    tokens: fn(&str, &str, &HashSet<&[u8]>) -> Result<Vec<Token>, Refusal>,
+    records: fn(Call, &str, &[Token]) -> Result<Vec<[u32; 6]>, Refusal>,
+}
+
+const ONE: Rules = Rules {
+    tokens: lex::tokens,
+    records: tree::records,
+};
+
+const TWO: Rules = Rules {
+    tokens: edition::tokens,
+    records: edition::records,
+};
+
 // The tests in their order; a buffer is written only once its records are known to fit.
 fn fill(case: &Case, token_buffer: &mut [u32], tree_buffer: &mut [u32]) -> Result<Answer, Refusal> {
-    let lexed = fill_tokens(case, token_buffer)?;
-    let tree_records = tree::records(case.call, &lexed.text, &lexed.tokens)?;
+    let rules = match case.edition {
+        1 => ONE,
+        2 => TWO,
+        _ => return Err(Refusal::at(refusal::UNKNOWN_EDITION, 0, 0)),
+    };
+    let lexed = fill_tokens(case, &rules, token_buffer)?;
+    let tree_records = (rules.records)(case.call, &lexed.text, &lexed.tokens)?;
     store(&tree_records, tree_buffer, refusal::NO_TREE_ROOM)?;
     Ok(Answer::Accepted {
         tokens: lexed.tokens.len() as u32,
@@ -143,8 +176,8 @@ struct Lexed {
     tokens: Vec<Token>,
 }
 
-// Tests 1 to 11, and the token buffer.
-fn fill_tokens(case: &Case, buffer: &mut [u32]) -> Result<Lexed, Refusal> {
+// Tests 1 to 11 and 28, and the token buffer.
+fn fill_tokens(case: &Case, rules: &Rules, buffer: &mut [u32]) -> Result<Lexed, Refusal> {
     let lent = table::words(&case.words)?;
     if case.source.len() > MAX_SOURCE {
         return Err(Refusal::at(
@@ -158,7 +191,7 @@ fn fill_tokens(case: &Case, buffer: &mut [u32]) -> Result<Lexed, Refusal> {
         Refusal::at(refusal::NOT_UTF8, at, at + 1)
     })?;
     let text = lex::without_unlent_words(source, &lent);
-    let tokens = lex::tokens(source, &text, &lent)?;
+    let tokens = (rules.tokens)(source, &text, &lent)?;
     let records: Vec<_> = tokens.iter().map(lex::record).collect();
     store(&records, buffer, refusal::NO_TOKEN_ROOM)?;
     Ok(Lexed { text, tokens })

@@ -5,13 +5,14 @@ use std::io::{Read, Write};
 use std::process::ExitCode;
 
 const HELP: &str = "\
-oracle: answers of the original Rust reader in the terms of document 01
+oracle: answers of the original Rust reader in the terms of documents 01 and 02
 
-usage: oracle FILE [--call CALL] [--tokens] [--table TABLE]
+usage: oracle FILE [--call CALL] [--edition N] [--tokens] [--table TABLE]
        oracle --stream [--full]
 
 FILE            the source; `-` is standard input
 --call CALL     program (default), item, stmt, expr or type
+--edition N     the edition of the reading rules: 1 (default), the original's own, or 2; any other is refused
 --tokens        print the tokens too
 --table TABLE   the word table: none (default), rust (the original's own list) or a file
 --stream        read framed cases from standard input, write an answer for each
@@ -37,6 +38,7 @@ fn main() -> ExitCode {
 fn dump(mut args: Args) -> Result<(), String> {
     let call = args.value("--call")?.unwrap_or("program".to_string());
     let call = Call::from_name(&call).ok_or(format!("unknown call {call}"))?;
+    let edition = args.edition()?.unwrap_or(1);
     let with_tokens = args.flag("--tokens");
     let words = match args.value("--table")?.as_deref() {
         None | Some("none") => Vec::new(),
@@ -44,7 +46,8 @@ fn dump(mut args: Args) -> Result<(), String> {
         Some(path) => read_file(path)?,
     };
     let [path] = args.operands()?;
-    let outcome = oracle::read(&Case::ample(call, read_file(&path)?, words));
+    let case = Case::ample(call, read_file(&path)?, words).in_edition(edition);
+    let outcome = oracle::read(&case);
     let mut out = Vec::new();
     frame::write_verdict(&outcome.answer, &mut out);
     if with_tokens {

@@ -21,6 +21,8 @@ pub const NOT_UTF8: u32 = 3;
 pub const BARRED_WORD: u32 = 6;
 pub const NO_TOKEN_ROOM: u32 = 11;
 pub const NO_TREE_ROOM: u32 = 23;
+pub const NO_DAY: u32 = 28;
+pub const UNKNOWN_EDITION: u32 = 29;
 
 /// How each message of the original starts, with the refusal's number.
 const MESSAGES: [(&str, u32); 18] = [

@@ -11,6 +11,7 @@ fn framed(case: &Case) -> Vec<u8> {
 
 fn example() -> Case {
     Case {
+        edition: 1,
         call: Call::Stmt,
         source: b"a\n\xFF".to_vec(),
         words: b"FW\x01a".to_vec(),
@@ -32,9 +33,24 @@ fn cases_read_back() {
 }
 
 #[test]
+fn editions_read_back() {
+    for edition in [0, 2, 3, u32::MAX] {
+        let case = example().in_edition(edition);
+        let stream = framed(&case);
+        assert!(stream.starts_with(format!("C {edition} stmt 3 4 10 7\n").as_bytes()));
+        assert_eq!(Frames::new(&stream[..]).next_case(), Ok(Some(case)));
+    }
+    let stream = b"C 1 stmt 3 4 10 7\na\n\xFFFW\x01a\n";
+    let read = Frames::new(&stream[..]).next_case();
+    assert_eq!(read, Ok(Some(example())));
+}
+
+#[test]
 fn bad_cases_are_told_with_their_place() {
-    let rows: [(&[u8], &str); 9] = [
+    let rows: [(&[u8], &str); 11] = [
         (b"X", "byte 0: no case header"),
+        (b"C 2 3 4 10 7\nabc", "byte 0: no case header"),
+        (b"C 4294967296 stmt 3 4 10 7\nabc", "byte 0: no case header"),
         (b"C stmt 3 4 10\nabc", "byte 0: no case header"),
         (b"C stmt 3 4 10 7 8\nabc", "byte 0: no case header"),
         (b"C word 3 0 10 7\nabc\n", "byte 0: no case header"),

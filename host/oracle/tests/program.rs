@@ -35,6 +35,15 @@ fn dumps() {
         printed(&with_tokens, b"1"),
         "A 2 1\nT 2 0 1\nT 62 1 1\nN 28 0 0 0 1 0\n"
     );
+    let edition = |edition| {
+        printed(
+            &["--edition", edition, "--call", "expr", "-"],
+            b"@2024-02-30",
+        )
+    };
+    assert_eq!(edition("1"), "A 2 1\nN 29 0 0 0 11 0\n");
+    assert_eq!(edition("2"), "R 28 0 11 0 0 0\n");
+    assert_eq!(edition("3"), "R 29 0 0 0 0 0\n");
 }
 
 #[test]
@@ -46,12 +55,19 @@ fn streams() {
     );
     let whole = "A 2 1\nT 2 0 1\nT 62 1 1\nN 28 0 0 0 1 0\nZ 0 0\n.\nR 11 0 0 0 0 2\nZ 0 0\n.\n";
     assert_eq!(printed(&["--stream", "--full"], cases), whole);
+    let editions = b"C 2 type 7 0 24 48\nA<B<C>>\nC type 7 0 24 48\nA<B<C>>\nC 0 expr 1 0 6 6\n1\n";
+    assert_eq!(
+        printed(&["--stream"], editions),
+        "A 7 3\n.\nR 12 5 7 53 61 0\n.\nR 29 0 0 0 0 0\n.\n"
+    );
 }
 
 #[test]
 fn bad_usage() {
-    let rows: [&[&str]; 7] = [
+    let rows: [&[&str]; 9] = [
         &[],
+        &["-", "--edition", "two"],
+        &["-", "--edition", "4294967296"],
         &["--what", "-"],
         &["-", "-"],
         &["-", "--call"],

@@ -26,7 +26,7 @@ extern "C" {
     ) -> Lexed;
 }
 
-/// Reads a source under a word table into token records.
+/// Reads a source under a word table into token records, in edition 1.
 pub fn tokenize(source: &[u8], words: &[u8], tokens: &mut [u32]) -> Lexed {
     // SAFETY: each pointer goes with its slice's length; only `tokens` is written, and it is lent mutably.
     unsafe {
@@ -51,6 +51,7 @@ pub fn read(case: &Case) -> Outcome {
     let mut tokens = Lent::new(case.token_words);
     let mut tree = Lent::new(case.tree_words);
     let given = raw::read(
+        case.edition,
         call(case.call),
         &case.source,
         &case.words,

@@ -33,11 +33,11 @@ fn sum(words: &[u32]) -> u64 {
 fn every_reading() {
     for line in STORED.lines() {
         let fields: Vec<&str> = line.split(' ').collect();
-        let mut tokens = vec![RUBBISH; number(fields[3])];
-        let mut tree = vec![RUBBISH; number(fields[4])];
-        let (table, source) = (bytes(fields[1]), bytes(fields[2]));
-        let call = CALLS[number(fields[0])];
-        let given = raw::read(call, &source, &table, &mut tokens, &mut tree);
+        let mut tokens = vec![RUBBISH; number(fields[4])];
+        let mut tree = vec![RUBBISH; number(fields[5])];
+        let (table, source) = (bytes(fields[2]), bytes(fields[3]));
+        let (edition, call) = (fields[0].parse().unwrap(), CALLS[number(fields[1])]);
+        let given = raw::read(edition, call, &source, &table, &mut tokens, &mut tree);
         let answer = [
             given.number,
             given.start,
@@ -51,6 +51,6 @@ fn every_reading() {
         let sums = [sum(&tokens), sum(&tree)];
         let got = answer.into_iter().map(u64::from).chain(sums);
         let got: Vec<String> = got.map(|number| number.to_string()).collect();
-        assert_eq!(got, fields[5..], "{line}");
+        assert_eq!(got, fields[6..], "{line}");
     }
 }

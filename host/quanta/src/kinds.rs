@@ -1,41 +1,42 @@
-//! Document 01's numbers by name: kinds of tokens, kinds of tree records, reasons of a refusal.
+//! The documents' numbers by name: kinds of tokens, kinds of tree records, reasons of a refusal.
 
 use std::fmt;
 
-// An enum whose variants are numbered from 1, each with its words.
+// An enum whose variants are numbered, each one more than that before it or as it says, and each with its words.
 macro_rules! numbered {
     (
         $(#[$doc:meta])* $name:ident,
-        $first:ident $first_words:literal
-        $($(#[$own:meta])* $variant:ident $words:literal)*
+        $($(#[$own:meta])* $variant:ident $(= $number:literal)? $words:literal)*
     ) => {
         $(#[$doc])*
         #[derive(Clone, Copy, Debug, PartialEq, Eq, Hash, PartialOrd, Ord)]
         #[repr(u32)]
         pub enum $name {
-            $first = 1,
-            $($(#[$own])* $variant,)*
+            $($(#[$own])* $variant $(= $number)?,)*
         }
 
         impl $name {
             /// All of them, in the order of their numbers.
-            pub const ALL: &'static [$name] = &[$name::$first, $($name::$variant),*];
+            pub const ALL: &'static [$name] = &[$($name::$variant),*];
 
-            /// The number that document 01 gives it.
+            /// The number that document 01 or 02 gives it.
             pub fn number(self) -> u32 {
                 self as u32
             }
 
             /// The one of this number, if there is one.
             pub fn from_number(number: u32) -> Option<$name> {
-                let place = (number as usize).checked_sub(1)?;
-                $name::ALL.get(place).copied()
+                $(if number == $name::$variant as u32 {
+                    return Some($name::$variant);
+                })*
+                None
             }
 
             /// It in words.
             pub fn name(self) -> &'static str {
-                const WORDS: &[&str] = &[$first_words, $($words),*];
-                WORDS[self as usize - 1]
+                match self {
+                    $($name::$variant => $words,)*
+                }
             }
         }
     };
@@ -53,7 +54,7 @@ numbered! {
     /// assert_eq!(TokenKind::Gt.to_string(), "`>`");
     /// ```
     TokenKind,
-    Ident "identifier"
+    Ident = 1 "identifier"
     Int "integer"
     Date "date"
     Str "string"
@@ -144,7 +145,7 @@ numbered! {
     /// assert_eq!(Node::from_number(41), None);
     /// ```
     Node,
-    Program "program"
+    Program = 1 "program"
     Import "import"
     Contract "contract"
     Asset "asset"
@@ -200,9 +201,16 @@ impl fmt::Display for Node {
 
 numbered! {
     /// Why a source is refused. The numbers are in the order of the tests, but for 12 to 22, of which
-    /// the first in reading comes.
+    /// the first in reading comes; 28, which stands among 6 to 10; and 29, which is the first test.
+    ///
+    /// ```
+    /// use quanta::Reason;
+    /// assert_eq!(Reason::TreeRoom.number(), 23);
+    /// assert_eq!(Reason::from_number(28), Some(Reason::NoDay));
+    /// assert_eq!(Reason::from_number(24), None);
+    /// ```
     Reason,
-    BadTable "the word table is too long or malformed"
+    BadTable = 1 "the word table is too long or malformed"
     SourceTooLong "the source is longer than 1,048,576 bytes"
     NotUtf8 "a byte that is not UTF-8"
     LoneCr "a carriage return without a line feed"
@@ -225,6 +233,10 @@ numbered! {
     BadTarget "assigned to what is no name and no field"
     Trailing "more after the end"
     TreeRoom "too few tree records"
+    /// In edition 2 only.
+    NoDay = 28 "a date that is no day"
+    /// Of the archive's own functions only: an [`Edition`](crate::Edition) is never unknown.
+    UnknownEdition "an edition other than 1 and 2"
 }
 
 impl fmt::Display for Reason {

@@ -5,16 +5,18 @@
 //! one [`Refusal`] with its place. What each answer is, and every word of the two buffers, is determined
 //! by document 01 of the repository; the code behind the calls is proved to give it.
 //!
+//! Each call is told by the rules of which [`Edition`] it reads.
+//!
 //! The feature `terminal` links the signing terminal's archive in place of the desk's: the same calls and the same
 //! answers, with less stack. Only one of the two can be linked into a program.
 //!
 //! With buffers of its own:
 //!
 //! ```
-//! use quanta::{Call, Node, Reading};
+//! use quanta::{Call, Edition, Node, Reading};
 //!
 //! let source = b"contract C { asset Coin; }";
-//! let reading = Reading::new(Call::Program, source, &[]).unwrap();
+//! let reading = Reading::new(Edition::One, Call::Program, source, &[]).unwrap();
 //! let nodes: Vec<_> = reading.records().map(|record| record.node).collect();
 //! assert_eq!(nodes, [Node::Name, Node::Name, Node::Asset, Node::Contract, Node::Program]);
 //! ```
@@ -22,13 +24,13 @@
 //! With lent buffers, which a caller can use again and again:
 //!
 //! ```
-//! use quanta::{parse_stmt, token_words, tree_words, Answer};
+//! use quanta::{parse_stmt, token_words, tree_words, Answer, Edition};
 //!
 //! let source = b"a + b = 1;";
 //! let mut tokens = vec![0; token_words(source.len())];
 //! let mut tree = vec![0; tree_words(source.len())];
 //! let words = quanta::word_table(["msg"]).unwrap();
-//! match parse_stmt(source, &words, &mut tokens, &mut tree) {
+//! match parse_stmt(Edition::One, source, &words, &mut tokens, &mut tree) {
 //!     Answer::Accepted { tokens, records } => println!("{tokens} tokens, {records} records"),
 //!     Answer::Refused(refusal) => assert_eq!(
 //!         refusal.in_source(source).to_string(),
@@ -37,12 +39,14 @@
 //! }
 //! ```
 
+mod edition;
 mod kinds;
 pub mod raw;
 mod reading;
 mod records;
 mod refusal;
 
+pub use edition::{Edition, UnknownEdition};
 pub use kinds::{Node, Reason, TokenKind};
 pub use reading::Reading;
 pub use records::{records, tokens, Record, Span, Token};
@@ -92,7 +96,8 @@ impl From<raw::Outcome> for Answer {
             return Answer::Accepted { tokens, records };
         }
         Answer::Refused(Refusal {
-            reason: Reason::from_number(number).expect("a refusal has a number from 1 to 23"),
+            reason: Reason::from_number(number)
+                .expect("a refusal has one of the documents' numbers"),
             span: Span { start, end },
             wanted: TokenKind::from_number(wanted),
             found: TokenKind::from_number(found),
@@ -144,49 +149,80 @@ pub fn word_table<'a>(words: impl IntoIterator<Item = &'a str>) -> Option<Vec<u8
     (table.len() <= MAX_TABLE).then_some(table)
 }
 
-/// Reads a source by any of the five calls, under a word table and into lent buffers. Room is a buffer's
-/// length divided by [`TOKEN_WORDS`] or [`TREE_WORDS`], rounded down; what the buffers held does not
-/// matter.
+/// Reads a source by any of the five calls: by the rules of an edition, under a word table and into lent
+/// buffers. Room is a buffer's length divided by [`TOKEN_WORDS`] or [`TREE_WORDS`], rounded down; what the
+/// buffers held does not matter.
 pub fn call(
+    edition: Edition,
     call: Call,
     source: &[u8],
     words: &[u8],
     tokens: &mut [u32],
     tree: &mut [u32],
 ) -> Answer {
-    raw::read(call, source, words, tokens, tree).into()
+    raw::read(edition.number(), call, source, words, tokens, tree).into()
 }
 
 /// Reads a program: imports, then contracts.
 ///
 /// ```
-/// use quanta::{parse, Answer};
+/// use quanta::{parse, Answer, Edition};
 /// let (mut tokens, mut tree) = ([7; 3], [7; 12]);
-/// let answer = parse(b"", b"", &mut tokens, &mut tree);
+/// let answer = parse(Edition::One, b"", b"", &mut tokens, &mut tree);
 /// assert_eq!(answer, Answer::Accepted { tokens: 1, records: 1 });
 /// assert_eq!(tokens, [62, 0, 0]);
 /// assert_eq!(tree, [1, 0, 0, 0, 0, 0, 0, 0, 0, 0, 0, 0]);
 /// ```
-pub fn parse(source: &[u8], words: &[u8], tokens: &mut [u32], tree: &mut [u32]) -> Answer {
-    call(Call::Program, source, words, tokens, tree)
+pub fn parse(
+    edition: Edition,
+    source: &[u8],
+    words: &[u8],
+    tokens: &mut [u32],
+    tree: &mut [u32],
+) -> Answer {
+    call(edition, Call::Program, source, words, tokens, tree)
 }
 
 /// Reads one item of a contract.
-pub fn parse_item(source: &[u8], words: &[u8], tokens: &mut [u32], tree: &mut [u32]) -> Answer {
-    call(Call::Item, source, words, tokens, tree)
+pub fn parse_item(
+    edition: Edition,
+    source: &[u8],
+    words: &[u8],
+    tokens: &mut [u32],
+    tree: &mut [u32],
+) -> Answer {
+    call(edition, Call::Item, source, words, tokens, tree)
 }
 
 /// Reads one statement.
-pub fn parse_stmt(source: &[u8], words: &[u8], tokens: &mut [u32], tree: &mut [u32]) -> Answer {
-    call(Call::Stmt, source, words, tokens, tree)
+pub fn parse_stmt(
+    edition: Edition,
+    source: &[u8],
+    words: &[u8],
+    tokens: &mut [u32],
+    tree: &mut [u32],
+) -> Answer {
+    call(edition, Call::Stmt, source, words, tokens, tree)
 }
 
 /// Reads one expression.
-pub fn parse_expr(source: &[u8], words: &[u8], tokens: &mut [u32], tree: &mut [u32]) -> Answer {
-    call(Call::Expr, source, words, tokens, tree)
+pub fn parse_expr(
+    edition: Edition,
+    source: &[u8],
+    words: &[u8],
+    tokens: &mut [u32],
+    tree: &mut [u32],
+) -> Answer {
+    call(edition, Call::Expr, source, words, tokens, tree)
 }
 
 /// Reads one type.
-pub fn parse_type(source: &[u8], words: &[u8], tokens: &mut [u32], tree: &mut [u32]) -> Answer {
-    call(Call::Type, source, words, tokens, tree)
+pub fn parse_type(
+    edition: Edition,
+    source: &[u8],
+    words: &[u8],
+    tokens: &mut [u32],
+    tree: &mut [u32],
+) -> Answer {
+    call(edition, Call::Type, source, words, tokens, tree)
 }

@@ -1,16 +1,18 @@
 //! Reads a source with the proved reader and shows its records in words.
 
-use quanta::{Call, Reading, Record};
+use quanta::{Call, Edition, Reading, Reason, Record, Refusal, TokenKind};
 use std::io::Write;
 use std::process::ExitCode;
 
 const HELP: &str = "\
 quanta: reads a Quanta contract with the proved reader
 
-usage: quanta FILE [CALL]
+usage: quanta FILE [CALL] [--edition N]
 
-FILE   the source
-CALL   program (default), item, stmt, expr or type
+FILE          the source
+CALL          program (default), item, stmt, expr or type
+--edition N   the edition of the reading rules: 1 (default), or 2, in which a `>>` may close two type lists
+              and a date must be a day
 
 Prints the tree, a line for each record: its kind, its span, the text of its own token where the kind does
 not say it, and its flag if it has one. Where the source is refused, the refusal with line and column.
@@ -19,7 +21,14 @@ Exit code: 0 accepted, 1 refused, 2 on bad usage.
 
 fn main() -> ExitCode {
     let args: Vec<String> = std::env::args().skip(1).collect();
-    let args: Vec<&str> = args.iter().map(String::as_str).collect();
+    let mut args: Vec<&str> = args.iter().map(String::as_str).collect();
+    let edition = match take_edition(&mut args) {
+        Ok(edition) => edition,
+        Err(message) => {
+            eprintln!("{message}\nsee --help");
+            return ExitCode::from(2);
+        }
+    };
     let (path, call) = match args[..] {
         ["--help"] => {
             print!("{HELP}");
@@ -40,7 +49,7 @@ fn main() -> ExitCode {
             return ExitCode::from(2);
         }
     };
-    match Reading::new(call, &source, &[]) {
+    match Reading::new(edition, call, &source, &[]) {
         Ok(reading) => {
             // A reader that has seen enough may close the pipe.
             let _ = std::io::stdout().write_all(shown(&reading).as_bytes());
@@ -48,9 +57,35 @@ fn main() -> ExitCode {
         }
         Err(refusal) => {
             println!("refused, {}", refusal.in_source(&source));
+            if edition == Edition::One && is_two_closers(&refusal) {
+                println!("edition 2 (--edition 2) reads this `>>` as two closers");
+            }
             ExitCode::from(1)
         }
     }
+}
+
+// Takes the option from the arguments.
+fn take_edition(args: &mut Vec<&str>) -> Result<Edition, String> {
+    let Some(place) = args.iter().position(|arg| *arg == "--edition") else {
+        return Ok(Edition::One);
+    };
+    let value = *args.get(place + 1).ok_or("--edition needs 1 or 2")?;
+    args.drain(place..place + 2);
+    let edition = value.parse();
+    edition.map_err(|error| format!("--edition {value}: {error}"))
+}
+
+// Whether a `>>` stands where a type list must close.
+fn is_two_closers(refusal: &Refusal) -> bool {
+    let Refusal {
+        reason,
+        wanted,
+        found,
+        ..
+    } = *refusal;
+    let (closer, pair) = (Some(TokenKind::Gt), Some(TokenKind::Shr));
+    (reason, wanted, found) == (Reason::ExpectedToken, closer, pair)
 }
 
 fn call_of(name: &str) -> Option<Call> {

@@ -29,6 +29,7 @@ macro_rules! calls {
     ($($name:ident)*) => {
         extern "C" {
             $(fn $name(
+                edition: u32,
                 source: *const u8,
                 source_len: usize,
                 words: *const u8,
@@ -45,8 +46,17 @@ macro_rules! calls {
 
 calls! { quanta_parse quanta_parse_item quanta_parse_stmt quanta_parse_expr quanta_parse_type }
 
-/// Makes one call.
+/// Makes one call in any edition; one that is unknown is answered by 29.
+///
+/// ```
+/// use quanta::{raw, Call};
+/// let (mut tokens, mut tree) = ([7; 6], [7; 12]);
+/// let outcome = raw::read(3, Call::Expr, b"a", &[], &mut tokens, &mut tree);
+/// assert_eq!(outcome, raw::Outcome { number: 29, ..raw::Outcome::default() });
+/// assert_eq!((tokens, tree), ([0; 6], [0; 12]));
+/// ```
 pub fn read(
+    edition: u32,
     call: Call,
     source: &[u8],
     words: &[u8],
@@ -64,6 +74,7 @@ pub fn read(
     // null; only `tokens` and `tree` are written, and both are lent mutably, so that nothing overlaps.
     unsafe {
         function(
+            edition,
             source.as_ptr(),
             source.len(),
             words.as_ptr(),

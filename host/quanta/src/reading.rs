@@ -2,7 +2,8 @@
 
 use crate::records::{record, records, token, tokens};
 use crate::{
-    call, token_words, tree_words, Answer, Call, Record, Refusal, Token, TOKEN_WORDS, TREE_WORDS,
+    call, token_words, tree_words, Answer, Call, Edition, Record, Refusal, Token, TOKEN_WORDS,
+    TREE_WORDS,
 };
 
 /// An accepted source with its tokens and its tree, in buffers of its own.
@@ -10,9 +11,9 @@ use crate::{
 /// Who reads many sources lends buffers to [`parse`](crate::parse) and its like instead.
 ///
 /// ```
-/// use quanta::{Call, Node, Reading};
+/// use quanta::{Call, Edition, Node, Reading};
 /// let source = b"(a) = f(1);";
-/// let reading = Reading::new(Call::Stmt, source, &[]).unwrap();
+/// let reading = Reading::new(Edition::One, Call::Stmt, source, &[]).unwrap();
 /// let (no, assign) = (reading.root(), reading.record(reading.root()).unwrap());
 /// assert_eq!(assign.node, Node::Assign);
 /// let parts: Vec<_> = reading.children(no).into_iter().map(|no| reading.record(no).unwrap()).collect();
@@ -28,11 +29,23 @@ pub struct Reading<'a> {
 }
 
 impl<'a> Reading<'a> {
-    /// Reads a source under a word table, with room enough.
-    pub fn new(kind: Call, source: &'a [u8], words: &[u8]) -> Result<Reading<'a>, Refusal> {
+    /// Reads a source by the rules of an edition and under a word table, with room enough.
+    pub fn new(
+        edition: Edition,
+        kind: Call,
+        source: &'a [u8],
+        words: &[u8],
+    ) -> Result<Reading<'a>, Refusal> {
         let mut tokens_buffer = vec![0; token_words(source.len())];
         let mut tree_buffer = vec![0; tree_words(source.len())];
-        match call(kind, source, words, &mut tokens_buffer, &mut tree_buffer) {
+        match call(
+            edition,
+            kind,
+            source,
+            words,
+            &mut tokens_buffer,
+            &mut tree_buffer,
+        ) {
             Answer::Refused(refusal) => Err(refusal),
             Answer::Accepted { tokens, records } => {
                 tokens_buffer.truncate(TOKEN_WORDS * tokens as usize);

@@ -76,7 +76,7 @@ pub struct Record {
 /// ```
 /// let mut tokens = [0; 12];
 /// let mut tree = [0; 24];
-/// quanta::parse_expr(b"a+1", &[], &mut tokens, &mut tree);
+/// quanta::parse_expr(quanta::Edition::One, b"a+1", &[], &mut tokens, &mut tree);
 /// let kinds: Vec<_> = quanta::tokens(&tokens).map(|token| token.kind.name()).collect();
 /// assert_eq!(kinds, ["identifier", "+", "integer", "end of input"]);
 /// ```
@@ -89,7 +89,7 @@ pub fn tokens(words: &[u32]) -> impl Iterator<Item = Token> + '_ {
 /// ```
 /// let mut tokens = [0; 12];
 /// let mut tree = [0; 24];
-/// quanta::parse_expr(b"a+1", &[], &mut tokens, &mut tree);
+/// quanta::parse_expr(quanta::Edition::One, b"a+1", &[], &mut tokens, &mut tree);
 /// let nodes: Vec<_> = quanta::records(&tree).map(|record| record.node.name()).collect();
 /// assert_eq!(nodes, ["name", "int", "binary"]);
 /// ```

@@ -8,9 +8,9 @@ use std::fmt;
 /// Displayed it is the number, the words and the span; [`Refusal::in_source`] adds line and column.
 ///
 /// ```
-/// use quanta::{Call, Reading, Reason, TokenKind};
+/// use quanta::{Call, Edition, Reading, Reason, TokenKind};
 /// let source = b"Map<A, Map<B, C>>";
-/// let refusal = Reading::new(Call::Type, source, &[]).unwrap_err();
+/// let refusal = Reading::new(Edition::One, Call::Type, source, &[]).unwrap_err();
 /// assert_eq!(refusal.reason, Reason::ExpectedToken);
 /// assert_eq!(refusal.wanted, Some(TokenKind::Gt));
 /// assert_eq!(refusal.to_string(), "12: expected `>`, found `>>` at 15..17");
@@ -23,7 +23,7 @@ use std::fmt;
 pub struct Refusal {
     pub reason: Reason,
     /// What is marked, in bytes of the source; for [`Reason::BadTable`] in bytes of the word table. Nothing
-    /// is marked where room is short.
+    /// is marked where room is short or the edition unknown.
     pub span: Span,
     /// The token that may stand there, for [`Reason::ExpectedToken`].
     pub wanted: Option<TokenKind>,
@@ -34,7 +34,7 @@ pub struct Refusal {
 }
 
 impl Refusal {
-    /// The refusal's number in document 01.
+    /// The refusal's number in documents 01 and 02.
     pub fn number(&self) -> u32 {
         self.reason.number()
     }
@@ -42,7 +42,11 @@ impl Refusal {
     /// Where the marked bytes start; none where none of the source are marked.
     pub fn place(&self, source: &[u8]) -> Option<Place> {
         match self.reason {
-            Reason::BadTable | Reason::SourceTooLong | Reason::TokenRoom | Reason::TreeRoom => None,
+            Reason::BadTable
+            | Reason::SourceTooLong
+            | Reason::TokenRoom
+            | Reason::TreeRoom
+            | Reason::UnknownEdition => None,
             _ => place(source, self.span.start as usize),
         }
     }
@@ -69,7 +73,7 @@ impl fmt::Display for Refusal {
         match self.reason {
             Reason::TokenRoom | Reason::TreeRoom => write!(f, ", {} needed", self.need),
             Reason::BadTable => write!(f, " at {} of the table", self.span.start),
-            Reason::SourceTooLong => Ok(()),
+            Reason::SourceTooLong | Reason::UnknownEdition => Ok(()),
             _ => write!(f, " at {}", self.span),
         }
     }

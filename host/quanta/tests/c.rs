@@ -38,7 +38,7 @@ fn rows_hold_in_c() {
     let output = run(&compiled("cc", "c99", "readings.c"), &[]);
     let said = String::from_utf8_lossy(&output.stdout);
     assert!(output.status.success(), "{said}");
-    assert_eq!(said, "18 rows hold\n");
+    assert_eq!(said, "26 rows hold\n");
 }
 
 #[test]
@@ -64,7 +64,7 @@ const LONG_TABLE: usize = 44 * 1024;
 fn calls_keep_to_little_stack() {
     let output = run(&compiled("cc", "gnu11", "stack.c"), &[]);
     let said = String::from_utf8(output.stdout).unwrap();
-    assert_eq!(said.lines().count(), 14, "{said}");
+    assert_eq!(said.lines().count(), 17, "{said}");
     for line in said.lines() {
         let fields: Vec<&str> = line.split(' ').collect();
         let deepest = match fields[0] {
@@ -72,7 +72,8 @@ fn calls_keep_to_little_stack() {
             _ => DEEPEST,
         };
         assert!(fields[2].parse::<usize>().unwrap() <= deepest, "{line}");
-        let refused = ["64-parentheses", "65-types"].contains(&fields[0]);
+        let too_deep = ["64-parentheses", "65-types", "66-types-by-two-closers"];
+        let refused = too_deep.contains(&fields[0]);
         assert_eq!(fields[1], if refused { "20" } else { "0" }, "{line}");
     }
 }

@@ -1,15 +1,23 @@
 //! The crate's own part: names, refusals in words, buffers and walks over the tree.
 
 use quanta::{
-    call, place, raw, records, token_words, tokens, tree_words, word_table, Answer, Call, Node,
-    Reading, Reason, Refusal, Span, Token, TokenKind,
+    call, place, raw, records, token_words, tokens, tree_words, word_table, Answer, Call, Edition,
+    Node, Reading, Reason, Refusal, Span, Token, TokenKind,
 };
 
 #[test]
 fn numbers_and_names() {
     assert_eq!(TokenKind::ALL.len(), 62);
     assert_eq!(Node::ALL.len(), 40);
-    assert_eq!(Reason::ALL.len(), 23);
+    assert_eq!(Reason::ALL.len(), 25);
+    for reason in Reason::ALL {
+        assert_eq!(Reason::from_number(reason.number()), Some(*reason));
+    }
+    let reasons: Vec<u32> = Reason::ALL.iter().map(|reason| reason.number()).collect();
+    assert_eq!(reasons, (1..=23).chain(28..=29).collect::<Vec<_>>());
+    for node in Node::ALL {
+        assert_eq!(Node::from_number(node.number()), Some(*node));
+    }
     for (place, kind) in TokenKind::ALL.iter().enumerate() {
         assert_eq!(kind.number() as usize, place + 1);
         assert_eq!(TokenKind::from_number(kind.number()), Some(*kind));
@@ -35,14 +43,21 @@ fn numbers_and_names() {
     assert_eq!(TokenKind::from_number(0), None);
     assert_eq!(TokenKind::from_number(63), None);
     assert_eq!(Reason::from_number(u32::MAX), None);
+    assert!([0, 24, 27, 30]
+        .iter()
+        .all(|number| Reason::from_number(*number).is_none()));
 }
 
-fn refusal(kind: Call, source: &[u8], words: &[u8]) -> String {
-    let refusal = Reading::new(kind, source, words).unwrap_err();
+fn refusal_in(edition: Edition, kind: Call, source: &[u8], words: &[u8]) -> String {
+    let refusal = Reading::new(edition, kind, source, words).unwrap_err();
     refusal.in_source(source).to_string()
 }
 
-// Every reason but 2, 11 and 23 in its words.
+fn refusal(kind: Call, source: &[u8], words: &[u8]) -> String {
+    refusal_in(Edition::One, kind, source, words)
+}
+
+// Every reason of edition 1 but 2, 11 and 23 in its words.
 #[test]
 fn refusals_in_words() {
     use Call::{Expr, Item, Program, Stmt, Type};
@@ -144,6 +159,98 @@ fn refusals_in_words() {
     }
 }
 
+// Rows of edition 2: accepted where no words are given.
+#[test]
+fn edition_2() {
+    use Call::{Expr, Item, Type};
+    let rows: [(Call, &[u8], &str); 8] = [
+        (Type, b"Map<A, Map<B, C>>", ""),
+        (Item, b"state{a:A<B<C>>=1;}", ""),
+        (Expr, b"@0000-02-29", ""),
+        (
+            Type,
+            b"A<B>>",
+            "22: more after the end, found `>` at 4..5, line 1 column 5",
+        ),
+        (
+            Item,
+            b"state{a:A<B>>;}",
+            "12: expected `;`, found `>` at 12..13, line 1 column 13",
+        ),
+        (
+            Item,
+            b"event E(a:A<B>>);",
+            "12: expected `)`, found `>` at 14..15, line 1 column 15",
+        ),
+        (
+            Expr,
+            b"f(\n@2024-02-30)",
+            "28: a date that is no day at 3..14, line 2 column 1",
+        ),
+        (
+            Expr,
+            b"00 @2024-02-30",
+            "8: a number that starts with 0 at 0..2, line 1 column 1",
+        ),
+    ];
+    for (kind, source, words) in rows {
+        let said = match Reading::new(Edition::Two, kind, source, &[]) {
+            Ok(_) => String::new(),
+            Err(refusal) => refusal.in_source(source).to_string(),
+        };
+        assert_eq!(said, words, "{}", String::from_utf8_lossy(source));
+    }
+    assert_eq!(
+        refusal_in(Edition::Two, Expr, b"a", b"FW\x01bF"),
+        "1: the word table is too long or malformed at 4 of the table"
+    );
+}
+
+#[test]
+fn editions() {
+    assert_eq!(Edition::ALL, [Edition::One, Edition::Two]);
+    for edition in Edition::ALL {
+        assert_eq!(Edition::from_number(edition.number()), Some(*edition));
+        assert_eq!(edition.to_string().parse(), Ok(*edition));
+        assert_eq!(format!("{edition:>3}"), format!("  {}", edition.number()));
+    }
+    assert!([0, 3, u32::MAX]
+        .iter()
+        .all(|number| Edition::from_number(*number).is_none()));
+    for text in ["", "0", "3", "01", "+1", " 1", "1 ", "One", "4294967297"] {
+        assert!(text.parse::<Edition>().is_err(), "{text}");
+    }
+}
+
+// The archive's own functions take any number; the safe ones can't be told of an unknown edition.
+#[test]
+fn unknown_editions() {
+    let outcome = raw::Outcome {
+        number: 29,
+        ..raw::Outcome::default()
+    };
+    for edition in [0, 3, 257, 1 << 31, u32::MAX] {
+        for kind in [
+            Call::Program,
+            Call::Item,
+            Call::Stmt,
+            Call::Expr,
+            Call::Type,
+        ] {
+            let (mut tokens, mut tree) = ([7; 8], [7; 13]);
+            // It comes before 1.
+            let given = raw::read(edition, kind, b"\xFF", b"F", &mut tokens, &mut tree);
+            assert_eq!((given, tokens, tree), (outcome, [0; 8], [0; 13]));
+        }
+    }
+    let Answer::Refused(refusal) = Answer::from(outcome) else {
+        panic!("29 is a refusal");
+    };
+    assert_eq!(refusal.reason, Reason::UnknownEdition);
+    let said = refusal.in_source(b"a").to_string();
+    assert_eq!(said, "29: an edition other than 1 and 2");
+}
+
 #[test]
 fn refusals_of_tables_and_lengths() {
     assert_eq!(
@@ -164,11 +271,17 @@ fn refusals_of_tables_and_lengths() {
 
 #[test]
 fn refusals_for_room() {
-    let said =
-        |tokens: &mut [u32], tree: &mut [u32]| match call(Call::Expr, b"a+b", &[], tokens, tree) {
-            Answer::Refused(refusal) => refusal.to_string(),
-            Answer::Accepted { tokens, records } => format!("{tokens} {records}"),
-        };
+    let said = |tokens: &mut [u32], tree: &mut [u32]| match call(
+        Edition::One,
+        Call::Expr,
+        b"a+b",
+        &[],
+        tokens,
+        tree,
+    ) {
+        Answer::Refused(refusal) => refusal.to_string(),
+        Answer::Accepted { tokens, records } => format!("{tokens} {records}"),
+    };
     assert_eq!(
         said(&mut [1; 11], &mut [1; 18]),
         "11: too few token records, 4 needed"
@@ -204,6 +317,7 @@ fn answers_are_the_archive_s_numbers() {
     assert_eq!(Answer::from(outcome), Answer::Refused(refusal));
     let (mut tokens, mut tree) = ([7; 54], [7; 108]);
     let given = raw::read(
+        1,
         Call::Type,
         b"Map<A, Map<B, C>>",
         &[],
@@ -219,7 +333,7 @@ fn answers_are_the_archive_s_numbers() {
 fn every_call_has_its_function() {
     let calls = [
         (
-            quanta::parse as fn(&[u8], &[u8], &mut [u32], &mut [u32]) -> Answer,
+            quanta::parse as fn(Edition, &[u8], &[u8], &mut [u32], &mut [u32]) -> Answer,
             "contract C { }",
         ),
         (quanta::parse_item, "asset A;"),
@@ -231,10 +345,12 @@ fn every_call_has_its_function() {
         for (other, (_, source)) in calls.into_iter().enumerate() {
             let mut tokens = vec![0; token_words(source.len())];
             let mut tree = vec![0; tree_words(source.len())];
-            let answer = function(source.as_bytes(), &[], &mut tokens, &mut tree);
-            let accepted = matches!(answer, Answer::Accepted { .. });
-            // A name is an expression and a type.
-            assert_eq!(accepted, own == other || (own, other) == (4, 3), "{source}");
+            for edition in Edition::ALL {
+                let answer = function(*edition, source.as_bytes(), &[], &mut tokens, &mut tree);
+                let accepted = matches!(answer, Answer::Accepted { .. });
+                // A name is an expression and a type.
+                assert_eq!(accepted, own == other || (own, other) == (4, 3), "{source}");
+            }
         }
     }
 }
@@ -243,7 +359,14 @@ fn every_call_has_its_function() {
 fn buffers_are_read_up_to_their_zeros() {
     let mut token_buffer = vec![9; token_words(3) + 2];
     let mut tree_buffer = vec![9; tree_words(3) + 5];
-    let answer = call(Call::Expr, b"a+b", &[], &mut token_buffer, &mut tree_buffer);
+    let answer = call(
+        Edition::One,
+        Call::Expr,
+        b"a+b",
+        &[],
+        &mut token_buffer,
+        &mut tree_buffer,
+    );
     assert_eq!(
         answer,
         Answer::Accepted {
@@ -260,13 +383,13 @@ fn buffers_are_read_up_to_their_zeros() {
 #[test]
 fn texts_of_tokens() {
     let source = "x(\"第三者\", @2026-01-31, Quorum)".as_bytes();
-    let reading = Reading::new(Call::Expr, b"x", &[]).unwrap();
+    let reading = Reading::new(Edition::One, Call::Expr, b"x", &[]).unwrap();
     assert_eq!(reading.source(), b"x");
-    let refused = Reading::new(Call::Expr, source, &[]).unwrap_err();
+    let refused = Reading::new(Edition::One, Call::Expr, source, &[]).unwrap_err();
     assert_eq!(refused.found, Some(TokenKind::Quorum));
     let source = &source[..source.len() - 9];
     let source = [source, b")"].concat();
-    let reading = Reading::new(Call::Expr, &source, &[]).unwrap();
+    let reading = Reading::new(Edition::One, Call::Expr, &source, &[]).unwrap();
     let texts: Vec<_> = reading.tokens().map(|token| reading.text(token)).collect();
     let expected: [&[u8]; 7] = [
         b"x",
@@ -305,7 +428,7 @@ fn texts_that_are_empty() {
 #[test]
 fn children_of_every_record() {
     let source = include_bytes!("../../../examples/every.quanta");
-    let reading = Reading::new(Call::Program, source, &[]).unwrap();
+    let reading = Reading::new(Edition::One, Call::Program, source, &[]).unwrap();
     let mut open: Vec<usize> = Vec::new();
     for (no, record) in reading.records().enumerate() {
         let children = open.split_off(open.len() - record.children as usize);

@@ -25,10 +25,17 @@ fn main() -> ExitCode {
 fn write(folder: &Path) -> std::io::Result<usize> {
     let parts = Call::ALL.into_iter().flat_map(|call| {
         let texts = edits::parts(call).into_iter();
-        texts.filter_map(move |tokens| fuzz::input(call, tokens.join(" ").as_bytes(), &[]))
+        let in_both = texts.flat_map(move |tokens| {
+            let text = tokens.join(" ");
+            [(1, text.clone()), (2, text.replace("> >", ">>"))]
+        });
+        in_both.filter_map(move |(edition, text)| fuzz::input(edition, call, text.as_bytes(), &[]))
     });
-    let stored = stored::chosen().into_iter();
-    let stored = stored.filter_map(|(case, _)| fuzz::input(case.call, &case.source, &case.words));
+    let stored = stored::chosen().into_iter().flat_map(|(case, _)| {
+        let input = |edition| fuzz::input(edition, case.call, &case.source, &case.words);
+        [input(1), input(2)]
+    });
+    let stored = stored.flatten();
     let mut count = 0;
     for input in parts.chain(stored) {
         std::fs::write(folder.join(format!("seed-{count:04}")), input)?;

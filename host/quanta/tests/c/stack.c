@@ -14,29 +14,33 @@
 #define ASSIGNED "contract C { entry e() { x = ", "; } }"
 #define TYPED "contract C { state { a: ", "; } }"
 
-/* What stands around so many times `open`, the middle, and as many times `close`; and a word table's length in bytes. */
+/* What stands around so many times `open`, the middle, and as many times `close`; a word table's length in bytes; the edition. */
 struct nested {
     const char *name, *front, *back, *open;
     int times;
     const char *middle, *close;
     size_t table;
+    uint32_t edition;
 };
 
 static const struct nested all[] = {
-    {"no-nesting", ASSIGNED, "", 0, "1", "", 0},
-    {"63-parentheses", ASSIGNED, "(", 63, "1", ")", 0},
-    {"64-parentheses", ASSIGNED, "(", 64, "1", ")", 0},
-    {"63-prefixes", ASSIGNED, "-", 63, "1", "", 0},
-    {"63-call-links", ASSIGNED, "", 63, "f", "()", 0},
-    {"31-calls-in-arguments", ASSIGNED, "f(", 31, "1", ")", 0},
-    {"63-checked", ASSIGNED, "checked(", 63, "1", ")", 0},
-    {"63-operators", ASSIGNED, "", 63, "1", "+1", 0},
-    {"31-operators-in-parentheses", ASSIGNED, "1+(", 31, "1", ")", 0},
-    {"64-types", TYPED, "A<", 64, "A", " >", 0},
-    {"65-types", TYPED, "A<", 65, "A", " >", 0},
-    {"table-of-8192-bytes", ASSIGNED, "", 0, "1", "", 8192},
-    {"table-of-8200-bytes", ASSIGNED, "", 0, "1", "", 8200},
-    {"table-of-65536-bytes", ASSIGNED, "", 0, "1", "", 65536},
+    {"no-nesting", ASSIGNED, "", 0, "1", "", 0, 1},
+    {"63-parentheses", ASSIGNED, "(", 63, "1", ")", 0, 1},
+    {"64-parentheses", ASSIGNED, "(", 64, "1", ")", 0, 1},
+    {"63-prefixes", ASSIGNED, "-", 63, "1", "", 0, 1},
+    {"63-call-links", ASSIGNED, "", 63, "f", "()", 0, 1},
+    {"31-calls-in-arguments", ASSIGNED, "f(", 31, "1", ")", 0, 1},
+    {"63-checked", ASSIGNED, "checked(", 63, "1", ")", 0, 1},
+    {"63-operators", ASSIGNED, "", 63, "1", "+1", 0, 1},
+    {"31-operators-in-parentheses", ASSIGNED, "1+(", 31, "1", ")", 0, 1},
+    {"64-types", TYPED, "A<", 64, "A", " >", 0, 1},
+    {"65-types", TYPED, "A<", 65, "A", " >", 0, 1},
+    {"table-of-8192-bytes", ASSIGNED, "", 0, "1", "", 8192, 1},
+    {"table-of-8200-bytes", ASSIGNED, "", 0, "1", "", 8200, 1},
+    {"table-of-65536-bytes", ASSIGNED, "", 0, "1", "", 65536, 1},
+    {"64-types-by-two-closers", TYPED, "A<A<", 32, "A", ">>", 0, 2},
+    {"66-types-by-two-closers", TYPED, "A<A<", 33, "A", ">>", 0, 2},
+    {"63-parentheses-in-edition-2", ASSIGNED, "(", 63, "@2024-02-29", ")", 0, 2},
 };
 static const size_t count = sizeof all / sizeof all[0];
 
@@ -45,11 +49,12 @@ static uint8_t words[QUANTA_MAX_TABLE];
 static uint32_t tokens[QUANTA_TOKENS_LEN(2048)];
 static uint32_t tree[QUANTA_TREE_LEN(2048)];
 static size_t words_len;
-static uint32_t number;
+static uint32_t edition, number;
 
 /* The source; and the table, of words of five letters that count from `aaaaa` on. */
 static void make(const struct nested *nested)
 {
+    edition = nested->edition;
     strcpy(source, nested->front);
     for (int i = 0; i < nested->times; i++)
         strcat(source, nested->open);
@@ -68,7 +73,7 @@ static void make(const struct nested *nested)
 
 static void call(void)
 {
-    number = quanta_parse((const uint8_t *)source, strlen(source), words, words_len, tokens,
+    number = quanta_parse(edition, (const uint8_t *)source, strlen(source), words, words_len, tokens,
                           sizeof tokens / sizeof tokens[0], tree, sizeof tree / sizeof tree[0])
                  .number;
 }

@@ -2,6 +2,8 @@
 -- Assumes nothing.
 use mathlib.Core.Path.{refl}
 use mathlib.Core.Bool.{false}
+use Rattle.quanta_token.specs.declared.edition.Edition.the-variants.{One}
+use Rattle.quanta_grammar.specs.Refine.{text}
 use Rattle.quanta_cursor.proofs.Meeting.{took-of, failed-of}
 use Rattle.quanta_clause.proofs.Clauses.{target-is, target-true, unit-ready, duration-target, value-took}
 use borrow.Author.Needs.{needs}
@@ -15,7 +17,7 @@ leaf-requires : tie.Need-leaf-requires
 leaf-requires c κs = search needs
 
 leaf-requires-2 : tie.Need-leaf-requires-2
-leaf-requires-2 c κs = unit-ready (c .before .before .before .before .before .before .before .before .before .before .before .before .args .src .now) (c .before .before .before .before .before .before .before .before .before .before .before .before .args .tokens .now) (c .before .before .before .before .before .before .before .before .before .before .before .before .pre) (target-true (c .before .before .before .before .before .before .before .before .before .before .before .before .args .src .now) (c .before .before .before .before .before .before .before .before .before .before .before .before .args .tokens .now) (c .before .before .before .before .before .before .before .before .before .before .before .before .args .at .0) (c .before .before .before .before .before .before .before .before .is-duration .ensures) (c .before .before .before .before .before .before .before .if1 .taken)) (c .before .before .before .before .before .leaf .ensures .0)
+leaf-requires-2 c κs = unit-ready (text One (c .before .before .before .before .before .before .before .before .before .before .before .before .args .src .now)) (c .before .before .before .before .before .before .before .before .before .before .before .before .args .tokens .now) (c .before .before .before .before .before .before .before .before .before .before .before .before .pre) (target-true (text One (c .before .before .before .before .before .before .before .before .before .before .before .before .args .src .now)) (c .before .before .before .before .before .before .before .before .before .before .before .before .args .tokens .now) (c .before .before .before .before .before .before .before .before .before .before .before .before .args .at .0) (c .before .before .before .before .before .before .before .before .is-duration .ensures One) (c .before .before .before .before .before .before .before .if1 .taken)) (c .before .before .before .before .before .leaf .ensures .0)
 
 join-requires : tie.Need-join-requires
 join-requires c κs = search needs
@@ -24,7 +26,7 @@ same-length : tie.Need-same-length
 same-length c = search needs
 
 returns : tie.Need-returns
-returns c = duration-target (c .before .before .before .before .before .before .before .before .before .before .before .before .before .before .before .before .before .before .before .before .pre) (c .before .before .before .before .before .before .before .before .before .before .before .before .before .before .before .before .is-duration .ensures) (c .before .before .before .before .before .before .before .before .before .before .before .before .before .before .before .if1 .taken) (c .before .before .before .before .before .before .before .before .before .before .before .before .before .leaf .ensures .0) (c .before .before .before .before .before .before .before .leaf2 .ensures .0) (c .before .before .before .before .before .before .before .before .before .before .before .before .before .leaf .ensures .1) (c .before .before .before .before .before .before .before .leaf2 .ensures .1) (c .join .ensures) refl
+returns c = λ e. duration-target (c .before .before .before .before .before .before .before .before .before .before .before .before .before .before .before .before .before .before .before .before .pre) (c .before .before .before .before .before .before .before .before .before .before .before .before .before .before .before .before .is-duration .ensures e) (c .before .before .before .before .before .before .before .before .before .before .before .before .before .before .before .if1 .taken) (c .before .before .before .before .before .before .before .before .before .before .before .before .before .leaf .ensures .0) (c .before .before .before .before .before .before .before .leaf2 .ensures .0) (c .before .before .before .before .before .before .before .before .before .before .before .before .before .leaf .ensures .1) (c .before .before .before .before .before .before .before .leaf2 .ensures .1) (c .join .ensures) refl
 
 expr-requires : tie.Need-expr-requires
 expr-requires c κs = search needs
@@ -39,13 +41,13 @@ same-length-2 : tie.Need-same-length-2
 same-length-2 c = search needs
 
 returns-2 : tie.Need-returns-2
-returns-2 c = target-is false (c .before .before .before .before .before .before .before .before .is-duration .ensures) (c .before .before .before .before .before .before .before .if1 .left) (failed-of (c .before .e .given .1) (c .before .before .before .before .before .expr .ensures (c .before .before .before .before .before .before .before .before .before .before .before .before .args .src .now)))
+returns-2 c = λ e. target-is false (c .before .before .before .before .before .before .before .before .is-duration .ensures e) (c .before .before .before .before .before .before .before .if1 .left) (failed-of (c .before .e .given .1) (c .before .before .before .before .before .expr .ensures (text e (c .before .before .before .before .before .before .before .before .before .before .before .before .args .src .now))))
 
 same-length-3 : tie.Need-same-length-3
 same-length-3 c = search needs
 
 returns-3 : tie.Need-returns-3
-returns-3 c = target-is false (c .before .before .before .before .before .before .before .before .before .before .before .is-duration .ensures) (c .before .before .before .before .before .before .before .before .before .before .if1 .left) (value-took (took-of (c .before .before .before .before .value .given .1) (c .before .before .before .before .before .before .before .before .expr .ensures (c .before .before .before .before .before .before .before .before .before .before .before .before .before .before .before .args .src .now))))
+returns-3 c = λ e. target-is false (c .before .before .before .before .before .before .before .before .before .before .before .is-duration .ensures e) (c .before .before .before .before .before .before .before .before .before .before .if1 .left) (value-took (took-of (c .before .before .before .before .value .given .1) (c .before .before .before .before .before .before .before .before .expr .ensures (text e (c .before .before .before .before .before .before .before .before .before .before .before .before .before .before .before .args .src .now)))))
 
 pub after-target-spec : {M : Type 1} → statement M
 after-target-spec =

@@ -6,7 +6,10 @@ use Prim.Native.Nat.{ℕ, _-_}
 use native.Mathlib.Omega.{arith}
 use borrow.Author.Needs.{needs}
 use Rattle.grammar.specs.Records.{fresh}
+use Rattle.quanta_token.specs.declared.edition.Edition.{Edition}
+use Rattle.quanta_token.specs.declared.edition.Edition.the-variants.{One}
 use Rattle.quanta_grammar.specs.Productions.{clauses, moreNames}
+use Rattle.quanta_grammar.specs.Refine.{text}
 use Rattle.quanta_cursor.specs.Tokens.{size, tokAt}
 use Rattle.quanta_cursor.proofs.Places.{ready-small}
 use Rattle.quanta_cursor.proofs.Meeting.{failed, took-of, failed-of, took-all, failed-all}
@@ -26,35 +29,35 @@ abbrev μ-names : tie.MeasureT-names
 μ-names src tokens tree₀ allowance at count end₀ last₀ names₀ tree end last names = size tokens - end .0
 
 abbrev Inv-clauses : tie.InvT-clauses
-Inv-clauses src tokens tree₀ allowance at₀ no₀ count₀ tree at no' count = Rolling clauses src tokens allowance (at₀ .0) (no₀ .0) count₀ tree₀ (at .0) (no' .0) count tree
+Inv-clauses src tokens tree₀ allowance at₀ no₀ count₀ tree at no' count = (e : Edition) → Rolling clauses (text e src) tokens allowance (at₀ .0) (no₀ .0) count₀ tree₀ (at .0) (no' .0) count tree
 
 abbrev μ-clauses : tie.MeasureT-clauses
 μ-clauses src tokens tree₀ allowance at₀ no₀ count₀ tree at no' count = size tokens - at .0
 
 -- where the arms meet: the clause at the loop's place was read
-turn : (c : tie.At-match-came Inv-names μ-names Inv-clauses μ-clauses) → Turn (c .before .before .before .before .before .before .args .src .now) (c .before .before .before .before .before .before .args .tokens .now) (c .before .before .before .before .before .before .args .allowance) (c .before .before .clauses .at .0) (c .before .before .clauses .no .0) (c .before .before .clauses .tree) (c .match .clause) (c .match .tree)
-turn c =
-    ⊎-elim (λ w. turned (after-start (c .before .before .before .before .before .before .args .src .now) (c .before .before .before .before .before .before .args .tokens .now) (c .before .before .clauses .at .0) (sym (c .before .peek .ensures) ∙ w .0 .keys1)) (w .6) (w .5) (w .2 .ensures) (w .2 .kept .1 .1 .0))
-    (⊎-elim (λ w. turned (name-start (c .before .before .before .before .before .before .args .src .now) (c .before .before .before .before .before .before .args .tokens .now) (c .before .before .clauses .at .0) (is-name (c .before .peek .ensures) (w .1 .left) (w .2 .taken))) (w .8) (w .7) (w .4 .ensures (c .before .before .before .before .before .before .args .src .now) (c .before .before .before .before .before .before .args .allowance)) (w .4 .kept .1 .0)) (⊎-elim (λ w. turned (names-start (c .before .before .before .before .before .before .args .src .now) (c .before .before .before .before .before .before .args .tokens .now) (c .before .before .clauses .at .0) (is-names (c .before .peek .ensures) (w .2 .left) (w .3 .taken))) (w .13) (w .12) (failed (names-none (c .before .before .before .before .before .before .args .src .now) (c .before .before .before .before .before .before .args .tokens .now) (c .before .before .before .before .before .before .args .allowance) (c .before .before .clauses .inv .ready) (is-names (c .before .peek .ensures) (w .2 .left) (w .3 .taken)) (w .5 .ensures) (w .6 .ensures) (w .10 .given .1))) (w .6 .kept .1 .0)) (⊎-elim (λ w. turned (names-start (c .before .before .before .before .before .before .args .src .now) (c .before .before .before .before .before .before .args .tokens .now) (c .before .before .clauses .at .0) (is-names (c .before .peek .ensures) (w .2 .left) (w .3 .taken))) (w .22) (w .21) (names-met (c .before .before .before .before .before .before .args .src .now) (c .before .before .before .before .before .before .args .tokens .now) (c .before .before .before .before .before .before .args .allowance) (c .before .before .clauses .inv .ready) (is-names (c .before .peek .ensures) (w .2 .left) (w .3 .taken)) (w .5 .ensures) (w .6 .ensures) (w .10 .given .1) (list-ends names-law (inside-ready (c .before .before .before .before .before .before .args .src .now) (c .before .before .before .before .before .before .args .tokens .now) (c .before .before .before .before .before .before .args .allowance) (c .before .before .clauses .inv .ready) (is-names (c .before .peek .ensures) (w .2 .left) (w .3 .taken)) (w .5 .ensures) (w .6 .ensures) (w .10 .given .1)) (inside-word (c .before .before .before .before .before .before .args .src .now) (c .before .before .before .before .before .before .args .tokens .now) (c .before .before .before .before .before .before .args .allowance) (c .before .before .clauses .inv .ready) (is-names (c .before .peek .ensures) (w .2 .left) (w .3 .taken)) (w .5 .ensures) (w .6 .ensures) (w .10 .given .1)) refl (w .14 .inv) (λ z. w .16 .taken (w .15 .ensures ∙ z)) refl refl refl (c .before .before .before .before .before .before .args .src .now) (tokAt (c .before .before .before .before .before .before .args .src .now) (c .before .before .before .before .before .before .args .tokens .now) (c .before .before .clauses .at .0)) (c .before .before .before .before .before .before .args .allowance) (behind (c .before .before .before .before .before .before .args .src .now) (c .before .before .before .before .before .before .args .tokens .now) (c .before .before .before .before .before .before .args .allowance) (c .before .before .clauses .inv .ready) (is-names (c .before .peek .ensures) (w .2 .left) (w .3 .taken)) (w .5 .ensures))) (w .18 .ensures)) (w .18 .kept .1 .0 ∙ w .14 .inv 0 .long ∙ w .6 .kept .1 .0)) (λ w. turned (expr-start (c .before .before .before .before .before .before .args .src .now) (c .before .before .before .before .before .before .args .tokens .now) (c .before .before .clauses .at .0) (is-expr (c .before .peek .ensures) (w .3 .left) (w .4 .taken))) (w .10) (w .9) (w .6 .ensures (c .before .before .before .before .before .before .args .src .now)) (w .6 .kept .1 .0)))))
+turn : (e : Edition) (c : tie.At-match-came Inv-names μ-names Inv-clauses μ-clauses) → Turn (text e (c .before .before .before .before .before .before .args .src .now)) (c .before .before .before .before .before .before .args .tokens .now) (c .before .before .before .before .before .before .args .allowance) (c .before .before .clauses .at .0) (c .before .before .clauses .no .0) (c .before .before .clauses .tree) (c .match .clause) (c .match .tree)
+turn e c =
+    ⊎-elim (λ w. turned (after-start (text e (c .before .before .before .before .before .before .args .src .now)) (c .before .before .before .before .before .before .args .tokens .now) (c .before .before .clauses .at .0) (sym (c .before .peek .ensures) ∙ w .0 .keys1)) (w .6) (w .5) (w .2 .ensures e) (w .2 .kept .1 .1 .0))
+    (⊎-elim (λ w. turned (name-start (text e (c .before .before .before .before .before .before .args .src .now)) (c .before .before .before .before .before .before .args .tokens .now) (c .before .before .clauses .at .0) (is-name (c .before .peek .ensures) (w .1 .left) (w .2 .taken))) (w .8) (w .7) (w .4 .ensures (text e (c .before .before .before .before .before .before .args .src .now)) (c .before .before .before .before .before .before .args .allowance)) (w .4 .kept .1 .0)) (⊎-elim (λ w. turned (names-start (text e (c .before .before .before .before .before .before .args .src .now)) (c .before .before .before .before .before .before .args .tokens .now) (c .before .before .clauses .at .0) (is-names (c .before .peek .ensures) (w .2 .left) (w .3 .taken))) (w .13) (w .12) (failed (names-none (text e (c .before .before .before .before .before .before .args .src .now)) (c .before .before .before .before .before .before .args .tokens .now) (c .before .before .before .before .before .before .args .allowance) (c .before .before .clauses .inv One .ready) (is-names (c .before .peek .ensures) (w .2 .left) (w .3 .taken)) (w .5 .ensures) (w .6 .ensures) (w .10 .given .1))) (w .6 .kept .1 .0)) (⊎-elim (λ w. turned (names-start (text e (c .before .before .before .before .before .before .args .src .now)) (c .before .before .before .before .before .before .args .tokens .now) (c .before .before .clauses .at .0) (is-names (c .before .peek .ensures) (w .2 .left) (w .3 .taken))) (w .22) (w .21) (names-met (text e (c .before .before .before .before .before .before .args .src .now)) (c .before .before .before .before .before .before .args .tokens .now) (c .before .before .before .before .before .before .args .allowance) (c .before .before .clauses .inv One .ready) (is-names (c .before .peek .ensures) (w .2 .left) (w .3 .taken)) (w .5 .ensures) (w .6 .ensures) (w .10 .given .1) (list-ends names-law (inside-ready (text e (c .before .before .before .before .before .before .args .src .now)) (c .before .before .before .before .before .before .args .tokens .now) (c .before .before .before .before .before .before .args .allowance) (c .before .before .clauses .inv One .ready) (is-names (c .before .peek .ensures) (w .2 .left) (w .3 .taken)) (w .5 .ensures) (w .6 .ensures) (w .10 .given .1)) (inside-word (text e (c .before .before .before .before .before .before .args .src .now)) (c .before .before .before .before .before .before .args .tokens .now) (c .before .before .before .before .before .before .args .allowance) (c .before .before .clauses .inv One .ready) (is-names (c .before .peek .ensures) (w .2 .left) (w .3 .taken)) (w .5 .ensures) (w .6 .ensures) (w .10 .given .1)) refl (w .14 .inv) (λ z. w .16 .taken (w .15 .ensures ∙ z)) refl refl refl (text e (c .before .before .before .before .before .before .args .src .now)) (tokAt (text e (c .before .before .before .before .before .before .args .src .now)) (c .before .before .before .before .before .before .args .tokens .now) (c .before .before .clauses .at .0)) (c .before .before .before .before .before .before .args .allowance) (behind (text e (c .before .before .before .before .before .before .args .src .now)) (c .before .before .before .before .before .before .args .tokens .now) (c .before .before .before .before .before .before .args .allowance) (c .before .before .clauses .inv One .ready) (is-names (c .before .peek .ensures) (w .2 .left) (w .3 .taken)) (w .5 .ensures))) (w .18 .ensures)) (w .18 .kept .1 .0 ∙ w .14 .inv 0 .long ∙ w .6 .kept .1 .0)) (λ w. turned (expr-start (text e (c .before .before .before .before .before .before .args .src .now)) (c .before .before .before .before .before .before .args .tokens .now) (c .before .before .clauses .at .0) (is-expr (c .before .peek .ensures) (w .3 .left) (w .4 .taken))) (w .10) (w .9) (w .6 .ensures (text e (c .before .before .before .before .before .before .args .src .now))) (w .6 .kept .1 .0)))))
     (c .match .came)
 
 clauses-holds : tie.Need-clauses-holds Inv-names μ-names Inv-clauses μ-clauses
-clauses-holds c = run-begun clauses-run (c .before .before .before .args .allowance) (c .before .before .before .pre)
+clauses-holds c = λ e. run-begun clauses-run (c .before .before .before .args .allowance) (c .before .before .before .pre)
 
 peek-requires : tie.Need-peek-requires Inv-names μ-names Inv-clauses μ-clauses
-peek-requires c κs = c .clauses .inv .ready .inside
+peek-requires c κs = c .clauses .inv One .ready .inside
 
 after-clause-requires : tie.Need-after-clause-requires Inv-names μ-names Inv-clauses μ-clauses
-after-clause-requires c κs = ((c .before .before .before .clauses .inv .ready), sym (c .before .before .peek .ensures) ∙ c .before .match .keys1)
+after-clause-requires c κs = ((c .before .before .before .clauses .inv One .ready), sym (c .before .before .peek .ensures) ∙ c .before .match .keys1)
 
 name-clause-requires : tie.Need-name-clause-requires Inv-names μ-names Inv-clauses μ-clauses
-name-clause-requires c κs = ((c .before .before .before .before .before .clauses .inv .ready), is-name (c .before .before .before .before .peek .ensures) (c .before .before .if1 .left) (c .before .if2 .taken))
+name-clause-requires c κs = ((c .before .before .before .before .before .clauses .inv One .ready), is-name (c .before .before .before .before .peek .ensures) (c .before .before .if1 .left) (c .before .if2 .taken))
 
 bump-requires : tie.Need-bump-requires Inv-names μ-names Inv-clauses μ-clauses
-bump-requires c κs = ready-small (c .before .before .before .before .before .before .clauses .inv .ready)
+bump-requires c κs = ready-small (c .before .before .before .before .before .before .clauses .inv One .ready)
 
 first-name-requires : tie.Need-first-name-requires Inv-names μ-names Inv-clauses μ-clauses
-first-name-requires c κs = names-past (c .before .before .before .before .before .before .before .before .before .before .before .args .src .now) (c .before .before .before .before .before .before .before .before .before .before .before .args .tokens .now) (c .before .before .before .before .before .before .before .before .before .before .before .args .allowance) (c .before .before .before .before .before .before .before .clauses .inv .ready) (is-names (c .before .before .before .before .before .before .peek .ensures) (c .before .before .before .if2 .left) (c .before .before .if3 .taken)) (c .bump .ensures)
+first-name-requires c κs = names-past (text One (c .before .before .before .before .before .before .before .before .before .before .before .args .src .now)) (c .before .before .before .before .before .before .before .before .before .before .before .args .tokens .now) (c .before .before .before .before .before .before .before .before .before .before .before .args .allowance) (c .before .before .before .before .before .before .before .clauses .inv One .ready) (is-names (c .before .before .before .before .before .before .peek .ensures) (c .before .before .before .if2 .left) (c .before .before .if3 .taken)) (c .bump .ensures)
 
 enum-known-e : tie.Need-enum-known-e Inv-names μ-names Inv-clauses μ-clauses
 enum-known-e c = search needs
@@ -63,7 +66,7 @@ enum-known-first : tie.Need-enum-known-first Inv-names μ-names Inv-clauses μ-c
 enum-known-first c = search needs
 
 names-holds : tie.Need-names-holds Inv-names μ-names Inv-clauses μ-clauses
-names-holds c = list-begun names-law (inside-ready (c .before .before .before .before .before .before .before .before .before .before .before .before .before .before .before .before .before .before .before .args .src .now) (c .before .before .before .before .before .before .before .before .before .before .before .before .before .before .before .before .before .before .before .args .tokens .now) (c .before .before .before .before .before .before .before .before .before .before .before .before .before .before .before .before .before .before .before .args .allowance) (c .before .before .before .before .before .before .before .before .before .before .before .before .before .before .before .clauses .inv .ready) (is-names (c .before .before .before .before .before .before .before .before .before .before .before .before .before .before .peek .ensures) (c .before .before .before .before .before .before .before .before .before .before .before .if2 .left) (c .before .before .before .before .before .before .before .before .before .before .if3 .taken)) (c .before .before .before .before .before .before .before .before .bump .ensures) (c .before .before .before .before .before .before .before .first-name .ensures) (c .before .before .before .first .given .1)) (inside-word (c .before .before .before .before .before .before .before .before .before .before .before .before .before .before .before .before .before .before .before .args .src .now) (c .before .before .before .before .before .before .before .before .before .before .before .before .before .before .before .before .before .before .before .args .tokens .now) (c .before .before .before .before .before .before .before .before .before .before .before .before .before .before .before .before .before .before .before .args .allowance) (c .before .before .before .before .before .before .before .before .before .before .before .before .before .before .before .clauses .inv .ready) (is-names (c .before .before .before .before .before .before .before .before .before .before .before .before .before .before .peek .ensures) (c .before .before .before .before .before .before .before .before .before .before .before .if2 .left) (c .before .before .before .before .before .before .before .before .before .before .if3 .taken)) (c .before .before .before .before .before .before .before .before .bump .ensures) (c .before .before .before .before .before .before .before .first-name .ensures) (c .before .before .before .first .given .1)) refl
+names-holds c = list-begun names-law (inside-ready (text One (c .before .before .before .before .before .before .before .before .before .before .before .before .before .before .before .before .before .before .before .args .src .now)) (c .before .before .before .before .before .before .before .before .before .before .before .before .before .before .before .before .before .before .before .args .tokens .now) (c .before .before .before .before .before .before .before .before .before .before .before .before .before .before .before .before .before .before .before .args .allowance) (c .before .before .before .before .before .before .before .before .before .before .before .before .before .before .before .clauses .inv One .ready) (is-names (c .before .before .before .before .before .before .before .before .before .before .before .before .before .before .peek .ensures) (c .before .before .before .before .before .before .before .before .before .before .before .if2 .left) (c .before .before .before .before .before .before .before .before .before .before .if3 .taken)) (c .before .before .before .before .before .before .before .before .bump .ensures) (c .before .before .before .before .before .before .before .first-name .ensures) (c .before .before .before .first .given .1)) (inside-word (text One (c .before .before .before .before .before .before .before .before .before .before .before .before .before .before .before .before .before .before .before .args .src .now)) (c .before .before .before .before .before .before .before .before .before .before .before .before .before .before .before .before .before .before .before .args .tokens .now) (c .before .before .before .before .before .before .before .before .before .before .before .before .before .before .before .before .before .before .before .args .allowance) (c .before .before .before .before .before .before .before .before .before .before .before .before .before .before .before .clauses .inv One .ready) (is-names (c .before .before .before .before .before .before .before .before .before .before .before .before .before .before .peek .ensures) (c .before .before .before .before .before .before .before .before .before .before .before .if2 .left) (c .before .before .before .before .before .before .before .before .before .before .if3 .taken)) (c .before .before .before .before .before .before .before .before .bump .ensures) (c .before .before .before .before .before .before .before .first-name .ensures) (c .before .before .before .first .given .1)) refl
 
 peek-requires-2 : tie.Need-peek-requires-2 Inv-names μ-names Inv-clauses μ-clauses
 peek-requires-2 c κs = (c .names .inv 0 .ready .inside)
@@ -72,16 +75,16 @@ bump-requires-2 : tie.Need-bump-requires-2 Inv-names μ-names Inv-clauses μ-cla
 bump-requires-2 c κs = ready-small (c .before .before .before .names .inv 0 .ready)
 
 expect-ident-requires : tie.Need-expect-ident-requires Inv-names μ-names Inv-clauses μ-clauses
-expect-ident-requires c κs = comma-past names-law (inside-ready (c .before .before .before .before .before .before .before .before .before .before .before .before .before .before .before .before .before .before .before .before .before .before .before .before .args .src .now) (c .before .before .before .before .before .before .before .before .before .before .before .before .before .before .before .before .before .before .before .before .before .before .before .before .args .tokens .now) (c .before .before .before .before .before .before .before .before .before .before .before .before .before .before .before .before .before .before .before .before .before .before .before .before .args .allowance) (c .before .before .before .before .before .before .before .before .before .before .before .before .before .before .before .before .before .before .before .before .clauses .inv .ready) (is-names (c .before .before .before .before .before .before .before .before .before .before .before .before .before .before .before .before .before .before .before .peek .ensures) (c .before .before .before .before .before .before .before .before .before .before .before .before .before .before .before .before .if2 .left) (c .before .before .before .before .before .before .before .before .before .before .before .before .before .before .before .if3 .taken)) (c .before .before .before .before .before .before .before .before .before .before .before .before .before .bump .ensures) (c .before .before .before .before .before .before .before .before .before .before .before .before .first-name .ensures) (c .before .before .before .before .before .before .before .before .first .given .1)) (inside-word (c .before .before .before .before .before .before .before .before .before .before .before .before .before .before .before .before .before .before .before .before .before .before .before .before .args .src .now) (c .before .before .before .before .before .before .before .before .before .before .before .before .before .before .before .before .before .before .before .before .before .before .before .before .args .tokens .now) (c .before .before .before .before .before .before .before .before .before .before .before .before .before .before .before .before .before .before .before .before .before .before .before .before .args .allowance) (c .before .before .before .before .before .before .before .before .before .before .before .before .before .before .before .before .before .before .before .before .clauses .inv .ready) (is-names (c .before .before .before .before .before .before .before .before .before .before .before .before .before .before .before .before .before .before .before .peek .ensures) (c .before .before .before .before .before .before .before .before .before .before .before .before .before .before .before .before .if2 .left) (c .before .before .before .before .before .before .before .before .before .before .before .before .before .before .before .if3 .taken)) (c .before .before .before .before .before .before .before .before .before .before .before .before .before .bump .ensures) (c .before .before .before .before .before .before .before .before .before .before .before .before .first-name .ensures) (c .before .before .before .before .before .before .before .before .first .given .1)) refl (c .before .before .before .before .names .inv) (sym (c .before .before .before .peek2 .ensures) ∙ c .before .before .if4 .left) (c .bump2 .ensures)
+expect-ident-requires c κs = comma-past names-law (inside-ready (text One (c .before .before .before .before .before .before .before .before .before .before .before .before .before .before .before .before .before .before .before .before .before .before .before .before .args .src .now)) (c .before .before .before .before .before .before .before .before .before .before .before .before .before .before .before .before .before .before .before .before .before .before .before .before .args .tokens .now) (c .before .before .before .before .before .before .before .before .before .before .before .before .before .before .before .before .before .before .before .before .before .before .before .before .args .allowance) (c .before .before .before .before .before .before .before .before .before .before .before .before .before .before .before .before .before .before .before .before .clauses .inv One .ready) (is-names (c .before .before .before .before .before .before .before .before .before .before .before .before .before .before .before .before .before .before .before .peek .ensures) (c .before .before .before .before .before .before .before .before .before .before .before .before .before .before .before .before .if2 .left) (c .before .before .before .before .before .before .before .before .before .before .before .before .before .before .before .if3 .taken)) (c .before .before .before .before .before .before .before .before .before .before .before .before .before .bump .ensures) (c .before .before .before .before .before .before .before .before .before .before .before .before .first-name .ensures) (c .before .before .before .before .before .before .before .before .first .given .1)) (inside-word (text One (c .before .before .before .before .before .before .before .before .before .before .before .before .before .before .before .before .before .before .before .before .before .before .before .before .args .src .now)) (c .before .before .before .before .before .before .before .before .before .before .before .before .before .before .before .before .before .before .before .before .before .before .before .before .args .tokens .now) (c .before .before .before .before .before .before .before .before .before .before .before .before .before .before .before .before .before .before .before .before .before .before .before .before .args .allowance) (c .before .before .before .before .before .before .before .before .before .before .before .before .before .before .before .before .before .before .before .before .clauses .inv One .ready) (is-names (c .before .before .before .before .before .before .before .before .before .before .before .before .before .before .before .before .before .before .before .peek .ensures) (c .before .before .before .before .before .before .before .before .before .before .before .before .before .before .before .before .if2 .left) (c .before .before .before .before .before .before .before .before .before .before .before .before .before .before .before .if3 .taken)) (c .before .before .before .before .before .before .before .before .before .before .before .before .before .bump .ensures) (c .before .before .before .before .before .before .before .before .before .before .before .before .first-name .ensures) (c .before .before .before .before .before .before .before .before .first .given .1)) refl (c .before .before .before .before .names .inv) (sym (c .before .before .before .peek2 .ensures) ∙ c .before .before .if4 .left) (c .bump2 .ensures)
 
 enum-known-e-2 : tie.Need-enum-known-e-2 Inv-names μ-names Inv-clauses μ-clauses
 enum-known-e-2 c = search needs
 
 same-length : tie.Need-same-length Inv-names μ-names Inv-clauses μ-clauses
-same-length c = c .before .before .before .before .before .expect-ident .kept .1 .0 ∙ c .before .before .before .before .before .before .before .before .before .before .names .inv 0 .long ∙ c .before .before .before .before .before .before .before .before .before .before .before .before .before .before .before .before .before .before .first-name .kept .1 .0 ∙ c .before .before .before .before .before .before .before .before .before .before .before .before .before .before .before .before .before .before .before .before .before .before .before .before .before .before .clauses .inv .long
+same-length c = c .before .before .before .before .before .expect-ident .kept .1 .0 ∙ c .before .before .before .before .before .before .before .before .before .before .names .inv 0 .long ∙ c .before .before .before .before .before .before .before .before .before .before .before .before .before .before .before .before .before .before .first-name .kept .1 .0 ∙ c .before .before .before .before .before .before .before .before .before .before .before .before .before .before .before .before .before .before .before .before .before .before .before .before .before .before .clauses .inv One .long
 
 returns : tie.Need-returns Inv-names μ-names Inv-clauses μ-clauses
-returns c = failed-all (runs-bad clauses-run (c .before .before .before .before .before .before .before .before .before .before .before .before .before .before .before .before .before .before .before .before .before .before .before .before .before .before .before .before .before .before .args .allowance) (c .before .before .before .before .before .before .before .before .before .before .before .before .before .before .before .before .before .before .before .before .before .before .before .before .before .before .before .before .before .before .pre) (c .before .before .before .before .before .before .before .before .before .before .before .before .before .before .before .before .before .before .before .before .before .before .before .before .before .before .clauses .inv) (names-start (c .before .before .before .before .before .before .before .before .before .before .before .before .before .before .before .before .before .before .before .before .before .before .before .before .before .before .before .before .before .before .args .src .now) (c .before .before .before .before .before .before .before .before .before .before .before .before .before .before .before .before .before .before .before .before .before .before .before .before .before .before .before .before .before .before .args .tokens .now) (c .before .before .before .before .before .before .before .before .before .before .before .before .before .before .before .before .before .before .before .before .before .before .before .before .before .before .clauses .at .0) (is-names (c .before .before .before .before .before .before .before .before .before .before .before .before .before .before .before .before .before .before .before .before .before .before .before .before .before .peek .ensures) (c .before .before .before .before .before .before .before .before .before .before .before .before .before .before .before .before .before .before .before .before .before .before .if2 .left) (c .before .before .before .before .before .before .before .before .before .before .before .before .before .before .before .before .before .before .before .before .before .if3 .taken))) fresh (names-bad (c .before .before .before .before .before .before .before .before .before .before .before .before .before .before .before .before .before .before .before .before .before .before .before .before .before .before .before .before .before .before .args .src .now) (c .before .before .before .before .before .before .before .before .before .before .before .before .before .before .before .before .before .before .before .before .before .before .before .before .before .before .before .before .before .before .args .tokens .now) (c .before .before .before .before .before .before .before .before .before .before .before .before .before .before .before .before .before .before .before .before .before .before .before .before .before .before .before .before .before .before .args .allowance) (c .before .before .before .before .before .before .before .before .before .before .before .before .before .before .before .before .before .before .before .before .before .before .before .before .before .before .clauses .inv .ready) (is-names (c .before .before .before .before .before .before .before .before .before .before .before .before .before .before .before .before .before .before .before .before .before .before .before .before .before .peek .ensures) (c .before .before .before .before .before .before .before .before .before .before .before .before .before .before .before .before .before .before .before .before .before .before .if2 .left) (c .before .before .before .before .before .before .before .before .before .before .before .before .before .before .before .before .before .before .before .before .before .if3 .taken)) (c .before .before .before .before .before .before .before .before .before .before .before .before .before .before .before .before .before .before .before .bump .ensures) (c .before .before .before .before .before .before .before .before .before .before .before .before .before .before .before .before .before .before .first-name .ensures) (c .before .before .before .before .before .before .before .before .before .before .before .before .before .before .first .given .1) (list-bad names-law (inside-ready (c .before .before .before .before .before .before .before .before .before .before .before .before .before .before .before .before .before .before .before .before .before .before .before .before .before .before .before .before .before .before .args .src .now) (c .before .before .before .before .before .before .before .before .before .before .before .before .before .before .before .before .before .before .before .before .before .before .before .before .before .before .before .before .before .before .args .tokens .now) (c .before .before .before .before .before .before .before .before .before .before .before .before .before .before .before .before .before .before .before .before .before .before .before .before .before .before .before .before .before .before .args .allowance) (c .before .before .before .before .before .before .before .before .before .before .before .before .before .before .before .before .before .before .before .before .before .before .before .before .before .before .clauses .inv .ready) (is-names (c .before .before .before .before .before .before .before .before .before .before .before .before .before .before .before .before .before .before .before .before .before .before .before .before .before .peek .ensures) (c .before .before .before .before .before .before .before .before .before .before .before .before .before .before .before .before .before .before .before .before .before .before .if2 .left) (c .before .before .before .before .before .before .before .before .before .before .before .before .before .before .before .before .before .before .before .before .before .if3 .taken)) (c .before .before .before .before .before .before .before .before .before .before .before .before .before .before .before .before .before .before .before .bump .ensures) (c .before .before .before .before .before .before .before .before .before .before .before .before .before .before .before .before .before .before .first-name .ensures) (c .before .before .before .before .before .before .before .before .before .before .before .before .before .before .first .given .1)) (inside-word (c .before .before .before .before .before .before .before .before .before .before .before .before .before .before .before .before .before .before .before .before .before .before .before .before .before .before .before .before .before .before .args .src .now) (c .before .before .before .before .before .before .before .before .before .before .before .before .before .before .before .before .before .before .before .before .before .before .before .before .before .before .before .before .before .before .args .tokens .now) (c .before .before .before .before .before .before .before .before .before .before .before .before .before .before .before .before .before .before .before .before .before .before .before .before .before .before .before .before .before .before .args .allowance) (c .before .before .before .before .before .before .before .before .before .before .before .before .before .before .before .before .before .before .before .before .before .before .before .before .before .before .clauses .inv .ready) (is-names (c .before .before .before .before .before .before .before .before .before .before .before .before .before .before .before .before .before .before .before .before .before .before .before .before .before .peek .ensures) (c .before .before .before .before .before .before .before .before .before .before .before .before .before .before .before .before .before .before .before .before .before .before .if2 .left) (c .before .before .before .before .before .before .before .before .before .before .before .before .before .before .before .before .before .before .before .before .before .if3 .taken)) (c .before .before .before .before .before .before .before .before .before .before .before .before .before .before .before .before .before .before .before .bump .ensures) (c .before .before .before .before .before .before .before .before .before .before .before .before .before .before .before .before .before .before .first-name .ensures) (c .before .before .before .before .before .before .before .before .before .before .before .before .before .before .first .given .1)) refl (c .before .before .before .before .before .before .before .before .before .before .names .inv) (sym (c .before .before .before .before .before .before .before .before .before .peek2 .ensures) ∙ c .before .before .before .before .before .before .before .before .if4 .left) (c .before .before .before .before .before .before .bump2 .ensures) (c .before .before .before .before .before .expect-ident .ensures) (c .before .e2 .given .1) (c .before .before .before .before .before .before .before .before .before .before .before .before .before .before .before .before .before .before .before .before .before .before .before .before .before .before .before .before .before .before .args .src .now) (tokAt (c .before .before .before .before .before .before .before .before .before .before .before .before .before .before .before .before .before .before .before .before .before .before .before .before .before .before .before .before .before .before .args .src .now) (c .before .before .before .before .before .before .before .before .before .before .before .before .before .before .before .before .before .before .before .before .before .before .before .before .before .before .before .before .before .before .args .tokens .now) (c .before .before .before .before .before .before .before .before .before .before .before .before .before .before .before .before .before .before .before .before .before .before .before .before .before .before .clauses .at .0)) (c .before .before .before .before .before .before .before .before .before .before .before .before .before .before .before .before .before .before .before .before .before .before .before .before .before .before .before .before .before .before .args .allowance) (behind (c .before .before .before .before .before .before .before .before .before .before .before .before .before .before .before .before .before .before .before .before .before .before .before .before .before .before .before .before .before .before .args .src .now) (c .before .before .before .before .before .before .before .before .before .before .before .before .before .before .before .before .before .before .before .before .before .before .before .before .before .before .before .before .before .before .args .tokens .now) (c .before .before .before .before .before .before .before .before .before .before .before .before .before .before .before .before .before .before .before .before .before .before .before .before .before .before .before .before .before .before .args .allowance) (c .before .before .before .before .before .before .before .before .before .before .before .before .before .before .before .before .before .before .before .before .before .before .before .before .before .before .clauses .inv .ready) (is-names (c .before .before .before .before .before .before .before .before .before .before .before .before .before .before .before .before .before .before .before .before .before .before .before .before .before .peek .ensures) (c .before .before .before .before .before .before .before .before .before .before .before .before .before .before .before .before .before .before .before .before .before .before .if2 .left) (c .before .before .before .before .before .before .before .before .before .before .before .before .before .before .before .before .before .before .before .before .before .if3 .taken)) (c .before .before .before .before .before .before .before .before .before .before .before .before .before .before .before .before .before .before .before .bump .ensures)))))
+returns c = λ e. failed-all (runs-bad clauses-run (c .before .before .before .before .before .before .before .before .before .before .before .before .before .before .before .before .before .before .before .before .before .before .before .before .before .before .before .before .before .before .args .allowance) (c .before .before .before .before .before .before .before .before .before .before .before .before .before .before .before .before .before .before .before .before .before .before .before .before .before .before .before .before .before .before .pre) (c .before .before .before .before .before .before .before .before .before .before .before .before .before .before .before .before .before .before .before .before .before .before .before .before .before .before .clauses .inv e) (names-start (text e (c .before .before .before .before .before .before .before .before .before .before .before .before .before .before .before .before .before .before .before .before .before .before .before .before .before .before .before .before .before .before .args .src .now)) (c .before .before .before .before .before .before .before .before .before .before .before .before .before .before .before .before .before .before .before .before .before .before .before .before .before .before .before .before .before .before .args .tokens .now) (c .before .before .before .before .before .before .before .before .before .before .before .before .before .before .before .before .before .before .before .before .before .before .before .before .before .before .clauses .at .0) (is-names (c .before .before .before .before .before .before .before .before .before .before .before .before .before .before .before .before .before .before .before .before .before .before .before .before .before .peek .ensures) (c .before .before .before .before .before .before .before .before .before .before .before .before .before .before .before .before .before .before .before .before .before .before .if2 .left) (c .before .before .before .before .before .before .before .before .before .before .before .before .before .before .before .before .before .before .before .before .before .if3 .taken))) fresh (names-bad (text e (c .before .before .before .before .before .before .before .before .before .before .before .before .before .before .before .before .before .before .before .before .before .before .before .before .before .before .before .before .before .before .args .src .now)) (c .before .before .before .before .before .before .before .before .before .before .before .before .before .before .before .before .before .before .before .before .before .before .before .before .before .before .before .before .before .before .args .tokens .now) (c .before .before .before .before .before .before .before .before .before .before .before .before .before .before .before .before .before .before .before .before .before .before .before .before .before .before .before .before .before .before .args .allowance) (c .before .before .before .before .before .before .before .before .before .before .before .before .before .before .before .before .before .before .before .before .before .before .before .before .before .before .clauses .inv One .ready) (is-names (c .before .before .before .before .before .before .before .before .before .before .before .before .before .before .before .before .before .before .before .before .before .before .before .before .before .peek .ensures) (c .before .before .before .before .before .before .before .before .before .before .before .before .before .before .before .before .before .before .before .before .before .before .if2 .left) (c .before .before .before .before .before .before .before .before .before .before .before .before .before .before .before .before .before .before .before .before .before .if3 .taken)) (c .before .before .before .before .before .before .before .before .before .before .before .before .before .before .before .before .before .before .before .bump .ensures) (c .before .before .before .before .before .before .before .before .before .before .before .before .before .before .before .before .before .before .first-name .ensures) (c .before .before .before .before .before .before .before .before .before .before .before .before .before .before .first .given .1) (list-bad names-law (inside-ready (text One (c .before .before .before .before .before .before .before .before .before .before .before .before .before .before .before .before .before .before .before .before .before .before .before .before .before .before .before .before .before .before .args .src .now)) (c .before .before .before .before .before .before .before .before .before .before .before .before .before .before .before .before .before .before .before .before .before .before .before .before .before .before .before .before .before .before .args .tokens .now) (c .before .before .before .before .before .before .before .before .before .before .before .before .before .before .before .before .before .before .before .before .before .before .before .before .before .before .before .before .before .before .args .allowance) (c .before .before .before .before .before .before .before .before .before .before .before .before .before .before .before .before .before .before .before .before .before .before .before .before .before .before .clauses .inv One .ready) (is-names (c .before .before .before .before .before .before .before .before .before .before .before .before .before .before .before .before .before .before .before .before .before .before .before .before .before .peek .ensures) (c .before .before .before .before .before .before .before .before .before .before .before .before .before .before .before .before .before .before .before .before .before .before .if2 .left) (c .before .before .before .before .before .before .before .before .before .before .before .before .before .before .before .before .before .before .before .before .before .if3 .taken)) (c .before .before .before .before .before .before .before .before .before .before .before .before .before .before .before .before .before .before .before .bump .ensures) (c .before .before .before .before .before .before .before .before .before .before .before .before .before .before .before .before .before .before .first-name .ensures) (c .before .before .before .before .before .before .before .before .before .before .before .before .before .before .first .given .1)) (inside-word (text One (c .before .before .before .before .before .before .before .before .before .before .before .before .before .before .before .before .before .before .before .before .before .before .before .before .before .before .before .before .before .before .args .src .now)) (c .before .before .before .before .before .before .before .before .before .before .before .before .before .before .before .before .before .before .before .before .before .before .before .before .before .before .before .before .before .before .args .tokens .now) (c .before .before .before .before .before .before .before .before .before .before .before .before .before .before .before .before .before .before .before .before .before .before .before .before .before .before .before .before .before .before .args .allowance) (c .before .before .before .before .before .before .before .before .before .before .before .before .before .before .before .before .before .before .before .before .before .before .before .before .before .before .clauses .inv One .ready) (is-names (c .before .before .before .before .before .before .before .before .before .before .before .before .before .before .before .before .before .before .before .before .before .before .before .before .before .peek .ensures) (c .before .before .before .before .before .before .before .before .before .before .before .before .before .before .before .before .before .before .before .before .before .before .if2 .left) (c .before .before .before .before .before .before .before .before .before .before .before .before .before .before .before .before .before .before .before .before .before .if3 .taken)) (c .before .before .before .before .before .before .before .before .before .before .before .before .before .before .before .before .before .before .before .bump .ensures) (c .before .before .before .before .before .before .before .before .before .before .before .before .before .before .before .before .before .before .first-name .ensures) (c .before .before .before .before .before .before .before .before .before .before .before .before .before .before .first .given .1)) refl (c .before .before .before .before .before .before .before .before .before .before .names .inv) (sym (c .before .before .before .before .before .before .before .before .before .peek2 .ensures) ∙ c .before .before .before .before .before .before .before .before .if4 .left) (c .before .before .before .before .before .before .bump2 .ensures) (c .before .before .before .before .before .expect-ident .ensures) (c .before .e2 .given .1) (text e (c .before .before .before .before .before .before .before .before .before .before .before .before .before .before .before .before .before .before .before .before .before .before .before .before .before .before .before .before .before .before .args .src .now)) (tokAt (text e (c .before .before .before .before .before .before .before .before .before .before .before .before .before .before .before .before .before .before .before .before .before .before .before .before .before .before .before .before .before .before .args .src .now)) (c .before .before .before .before .before .before .before .before .before .before .before .before .before .before .before .before .before .before .before .before .before .before .before .before .before .before .before .before .before .before .args .tokens .now) (c .before .before .before .before .before .before .before .before .before .before .before .before .before .before .before .before .before .before .before .before .before .before .before .before .before .before .clauses .at .0)) (c .before .before .before .before .before .before .before .before .before .before .before .before .before .before .before .before .before .before .before .before .before .before .before .before .before .before .before .before .before .before .args .allowance) (behind (text e (c .before .before .before .before .before .before .before .before .before .before .before .before .before .before .before .before .before .before .before .before .before .before .before .before .before .before .before .before .before .before .args .src .now)) (c .before .before .before .before .before .before .before .before .before .before .before .before .before .before .before .before .before .before .before .before .before .before .before .before .before .before .before .before .before .before .args .tokens .now) (c .before .before .before .before .before .before .before .before .before .before .before .before .before .before .before .before .before .before .before .before .before .before .before .before .before .before .before .before .before .before .args .allowance) (c .before .before .before .before .before .before .before .before .before .before .before .before .before .before .before .before .before .before .before .before .before .before .before .before .before .before .clauses .inv One .ready) (is-names (c .before .before .before .before .before .before .before .before .before .before .before .before .before .before .before .before .before .before .before .before .before .before .before .before .before .peek .ensures) (c .before .before .before .before .before .before .before .before .before .before .before .before .before .before .before .before .before .before .before .before .before .before .if2 .left) (c .before .before .before .before .before .before .before .before .before .before .before .before .before .before .before .before .before .before .before .before .before .if3 .taken)) (c .before .before .before .before .before .before .before .before .before .before .before .before .before .before .before .before .before .before .before .bump .ensures)))))
 
 enum-known-name : tie.Need-enum-known-name Inv-names μ-names Inv-clauses μ-clauses
 enum-known-name c = search needs
@@ -90,49 +93,49 @@ add-names : tie.Need-add-names Inv-names μ-names Inv-clauses μ-clauses
 add-names c = omega (arith, c .before .before .before .before .before .before .before .before .before .before .before .before .names .inv 0 .few, (c .before .before .before .before .before .before .before .before .before .before .before .before .names .inv 0 .ready .inside), c .before .before .before .before .before .before .before .before .before .before .before .before .names .inv 0 .ready .fits, c .before .before .before .before .before .before .before .before .before .before .before .before .before .before .before .before .before .before .before .before .before .before .before .before .before .before .before .before .before .before .before .before .pre .closed .few)
 
 names-less : tie.Need-names-less Inv-names μ-names Inv-clauses μ-clauses
-names-less c = omega (arith, (c .before .before .before .before .before .before .before .before .before .before .before .before .names .inv 0 .ready .inside), list-less names-law (inside-ready (c .before .before .before .before .before .before .before .before .before .before .before .before .before .before .before .before .before .before .before .before .before .before .before .before .before .before .before .before .before .before .before .before .args .src .now) (c .before .before .before .before .before .before .before .before .before .before .before .before .before .before .before .before .before .before .before .before .before .before .before .before .before .before .before .before .before .before .before .before .args .tokens .now) (c .before .before .before .before .before .before .before .before .before .before .before .before .before .before .before .before .before .before .before .before .before .before .before .before .before .before .before .before .before .before .before .before .args .allowance) (c .before .before .before .before .before .before .before .before .before .before .before .before .before .before .before .before .before .before .before .before .before .before .before .before .before .before .before .before .clauses .inv .ready) (is-names (c .before .before .before .before .before .before .before .before .before .before .before .before .before .before .before .before .before .before .before .before .before .before .before .before .before .before .before .peek .ensures) (c .before .before .before .before .before .before .before .before .before .before .before .before .before .before .before .before .before .before .before .before .before .before .before .before .if2 .left) (c .before .before .before .before .before .before .before .before .before .before .before .before .before .before .before .before .before .before .before .before .before .before .before .if3 .taken)) (c .before .before .before .before .before .before .before .before .before .before .before .before .before .before .before .before .before .before .before .before .before .bump .ensures) (c .before .before .before .before .before .before .before .before .before .before .before .before .before .before .before .before .before .before .before .before .first-name .ensures) (c .before .before .before .before .before .before .before .before .before .before .before .before .before .before .before .before .first .given .1)) (inside-word (c .before .before .before .before .before .before .before .before .before .before .before .before .before .before .before .before .before .before .before .before .before .before .before .before .before .before .before .before .before .before .before .before .args .src .now) (c .before .before .before .before .before .before .before .before .before .before .before .before .before .before .before .before .before .before .before .before .before .before .before .before .before .before .before .before .before .before .before .before .args .tokens .now) (c .before .before .before .before .before .before .before .before .before .before .before .before .before .before .before .before .before .before .before .before .before .before .before .before .before .before .before .before .before .before .before .before .args .allowance) (c .before .before .before .before .before .before .before .before .before .before .before .before .before .before .before .before .before .before .before .before .before .before .before .before .before .before .before .before .clauses .inv .ready) (is-names (c .before .before .before .before .before .before .before .before .before .before .before .before .before .before .before .before .before .before .before .before .before .before .before .before .before .before .before .peek .ensures) (c .before .before .before .before .before .before .before .before .before .before .before .before .before .before .before .before .before .before .before .before .before .before .before .before .if2 .left) (c .before .before .before .before .before .before .before .before .before .before .before .before .before .before .before .before .before .before .before .before .before .before .before .if3 .taken)) (c .before .before .before .before .before .before .before .before .before .before .before .before .before .before .before .before .before .before .before .before .before .bump .ensures) (c .before .before .before .before .before .before .before .before .before .before .before .before .before .before .before .before .before .before .before .before .first-name .ensures) (c .before .before .before .before .before .before .before .before .before .before .before .before .before .before .before .before .first .given .1)) refl (c .before .before .before .before .before .before .before .before .before .before .before .before .names .inv) (sym (c .before .before .before .before .before .before .before .before .before .before .before .peek2 .ensures) ∙ c .before .before .before .before .before .before .before .before .before .before .if4 .left) (c .before .before .before .before .before .before .before .before .bump2 .ensures) (c .before .before .before .before .before .before .before .expect-ident .ensures) (c .before .before .before .name .given .1))
+names-less c = omega (arith, (c .before .before .before .before .before .before .before .before .before .before .before .before .names .inv 0 .ready .inside), list-less names-law (inside-ready (text One (c .before .before .before .before .before .before .before .before .before .before .before .before .before .before .before .before .before .before .before .before .before .before .before .before .before .before .before .before .before .before .before .before .args .src .now)) (c .before .before .before .before .before .before .before .before .before .before .before .before .before .before .before .before .before .before .before .before .before .before .before .before .before .before .before .before .before .before .before .before .args .tokens .now) (c .before .before .before .before .before .before .before .before .before .before .before .before .before .before .before .before .before .before .before .before .before .before .before .before .before .before .before .before .before .before .before .before .args .allowance) (c .before .before .before .before .before .before .before .before .before .before .before .before .before .before .before .before .before .before .before .before .before .before .before .before .before .before .before .before .clauses .inv One .ready) (is-names (c .before .before .before .before .before .before .before .before .before .before .before .before .before .before .before .before .before .before .before .before .before .before .before .before .before .before .before .peek .ensures) (c .before .before .before .before .before .before .before .before .before .before .before .before .before .before .before .before .before .before .before .before .before .before .before .before .if2 .left) (c .before .before .before .before .before .before .before .before .before .before .before .before .before .before .before .before .before .before .before .before .before .before .before .if3 .taken)) (c .before .before .before .before .before .before .before .before .before .before .before .before .before .before .before .before .before .before .before .before .before .bump .ensures) (c .before .before .before .before .before .before .before .before .before .before .before .before .before .before .before .before .before .before .before .before .first-name .ensures) (c .before .before .before .before .before .before .before .before .before .before .before .before .before .before .before .before .first .given .1)) (inside-word (text One (c .before .before .before .before .before .before .before .before .before .before .before .before .before .before .before .before .before .before .before .before .before .before .before .before .before .before .before .before .before .before .before .before .args .src .now)) (c .before .before .before .before .before .before .before .before .before .before .before .before .before .before .before .before .before .before .before .before .before .before .before .before .before .before .before .before .before .before .before .before .args .tokens .now) (c .before .before .before .before .before .before .before .before .before .before .before .before .before .before .before .before .before .before .before .before .before .before .before .before .before .before .before .before .before .before .before .before .args .allowance) (c .before .before .before .before .before .before .before .before .before .before .before .before .before .before .before .before .before .before .before .before .before .before .before .before .before .before .before .before .clauses .inv One .ready) (is-names (c .before .before .before .before .before .before .before .before .before .before .before .before .before .before .before .before .before .before .before .before .before .before .before .before .before .before .before .peek .ensures) (c .before .before .before .before .before .before .before .before .before .before .before .before .before .before .before .before .before .before .before .before .before .before .before .before .if2 .left) (c .before .before .before .before .before .before .before .before .before .before .before .before .before .before .before .before .before .before .before .before .before .before .before .if3 .taken)) (c .before .before .before .before .before .before .before .before .before .before .before .before .before .before .before .before .before .before .before .before .before .bump .ensures) (c .before .before .before .before .before .before .before .before .before .before .before .before .before .before .before .before .before .before .before .before .first-name .ensures) (c .before .before .before .before .before .before .before .before .before .before .before .before .before .before .before .before .first .given .1)) refl (c .before .before .before .before .before .before .before .before .before .before .before .before .names .inv) (sym (c .before .before .before .before .before .before .before .before .before .before .before .peek2 .ensures) ∙ c .before .before .before .before .before .before .before .before .before .before .if4 .left) (c .before .before .before .before .before .before .before .before .bump2 .ensures) (c .before .before .before .before .before .before .before .expect-ident .ensures) (c .before .before .before .name .given .1))
 
 names-again : tie.Need-names-again Inv-names μ-names Inv-clauses μ-clauses
-names-again c = list-on names-law (inside-ready (c .before .before .before .before .before .before .before .before .before .before .before .before .before .before .before .before .before .before .before .before .before .before .before .before .before .before .before .before .before .before .before .before .args .src .now) (c .before .before .before .before .before .before .before .before .before .before .before .before .before .before .before .before .before .before .before .before .before .before .before .before .before .before .before .before .before .before .before .before .args .tokens .now) (c .before .before .before .before .before .before .before .before .before .before .before .before .before .before .before .before .before .before .before .before .before .before .before .before .before .before .before .before .before .before .before .before .args .allowance) (c .before .before .before .before .before .before .before .before .before .before .before .before .before .before .before .before .before .before .before .before .before .before .before .before .before .before .before .before .clauses .inv .ready) (is-names (c .before .before .before .before .before .before .before .before .before .before .before .before .before .before .before .before .before .before .before .before .before .before .before .before .before .before .before .peek .ensures) (c .before .before .before .before .before .before .before .before .before .before .before .before .before .before .before .before .before .before .before .before .before .before .before .before .if2 .left) (c .before .before .before .before .before .before .before .before .before .before .before .before .before .before .before .before .before .before .before .before .before .before .before .if3 .taken)) (c .before .before .before .before .before .before .before .before .before .before .before .before .before .before .before .before .before .before .before .before .before .bump .ensures) (c .before .before .before .before .before .before .before .before .before .before .before .before .before .before .before .before .before .before .before .before .first-name .ensures) (c .before .before .before .before .before .before .before .before .before .before .before .before .before .before .before .before .first .given .1)) (inside-word (c .before .before .before .before .before .before .before .before .before .before .before .before .before .before .before .before .before .before .before .before .before .before .before .before .before .before .before .before .before .before .before .before .args .src .now) (c .before .before .before .before .before .before .before .before .before .before .before .before .before .before .before .before .before .before .before .before .before .before .before .before .before .before .before .before .before .before .before .before .args .tokens .now) (c .before .before .before .before .before .before .before .before .before .before .before .before .before .before .before .before .before .before .before .before .before .before .before .before .before .before .before .before .before .before .before .before .args .allowance) (c .before .before .before .before .before .before .before .before .before .before .before .before .before .before .before .before .before .before .before .before .before .before .before .before .before .before .before .before .clauses .inv .ready) (is-names (c .before .before .before .before .before .before .before .before .before .before .before .before .before .before .before .before .before .before .before .before .before .before .before .before .before .before .before .peek .ensures) (c .before .before .before .before .before .before .before .before .before .before .before .before .before .before .before .before .before .before .before .before .before .before .before .before .if2 .left) (c .before .before .before .before .before .before .before .before .before .before .before .before .before .before .before .before .before .before .before .before .before .before .before .if3 .taken)) (c .before .before .before .before .before .before .before .before .before .before .before .before .before .before .before .before .before .before .before .before .before .bump .ensures) (c .before .before .before .before .before .before .before .before .before .before .before .before .before .before .before .before .before .before .before .before .first-name .ensures) (c .before .before .before .before .before .before .before .before .before .before .before .before .before .before .before .before .first .given .1)) refl (c .before .before .before .before .before .before .before .before .before .before .before .before .names .inv) (sym (c .before .before .before .before .before .before .before .before .before .before .before .peek2 .ensures) ∙ c .before .before .before .before .before .before .before .before .before .before .if4 .left) (c .before .before .before .before .before .before .before .before .bump2 .ensures) (c .before .before .before .before .before .before .before .expect-ident .ensures) (c .before .before .before .name .given .1) refl (c .before .before .before .before .before .before .before .expect-ident .kept .1 .0)
+names-again c = list-on names-law (inside-ready (text One (c .before .before .before .before .before .before .before .before .before .before .before .before .before .before .before .before .before .before .before .before .before .before .before .before .before .before .before .before .before .before .before .before .args .src .now)) (c .before .before .before .before .before .before .before .before .before .before .before .before .before .before .before .before .before .before .before .before .before .before .before .before .before .before .before .before .before .before .before .before .args .tokens .now) (c .before .before .before .before .before .before .before .before .before .before .before .before .before .before .before .before .before .before .before .before .before .before .before .before .before .before .before .before .before .before .before .before .args .allowance) (c .before .before .before .before .before .before .before .before .before .before .before .before .before .before .before .before .before .before .before .before .before .before .before .before .before .before .before .before .clauses .inv One .ready) (is-names (c .before .before .before .before .before .before .before .before .before .before .before .before .before .before .before .before .before .before .before .before .before .before .before .before .before .before .before .peek .ensures) (c .before .before .before .before .before .before .before .before .before .before .before .before .before .before .before .before .before .before .before .before .before .before .before .before .if2 .left) (c .before .before .before .before .before .before .before .before .before .before .before .before .before .before .before .before .before .before .before .before .before .before .before .if3 .taken)) (c .before .before .before .before .before .before .before .before .before .before .before .before .before .before .before .before .before .before .before .before .before .bump .ensures) (c .before .before .before .before .before .before .before .before .before .before .before .before .before .before .before .before .before .before .before .before .first-name .ensures) (c .before .before .before .before .before .before .before .before .before .before .before .before .before .before .before .before .first .given .1)) (inside-word (text One (c .before .before .before .before .before .before .before .before .before .before .before .before .before .before .before .before .before .before .before .before .before .before .before .before .before .before .before .before .before .before .before .before .args .src .now)) (c .before .before .before .before .before .before .before .before .before .before .before .before .before .before .before .before .before .before .before .before .before .before .before .before .before .before .before .before .before .before .before .before .args .tokens .now) (c .before .before .before .before .before .before .before .before .before .before .before .before .before .before .before .before .before .before .before .before .before .before .before .before .before .before .before .before .before .before .before .before .args .allowance) (c .before .before .before .before .before .before .before .before .before .before .before .before .before .before .before .before .before .before .before .before .before .before .before .before .before .before .before .before .clauses .inv One .ready) (is-names (c .before .before .before .before .before .before .before .before .before .before .before .before .before .before .before .before .before .before .before .before .before .before .before .before .before .before .before .peek .ensures) (c .before .before .before .before .before .before .before .before .before .before .before .before .before .before .before .before .before .before .before .before .before .before .before .before .if2 .left) (c .before .before .before .before .before .before .before .before .before .before .before .before .before .before .before .before .before .before .before .before .before .before .before .if3 .taken)) (c .before .before .before .before .before .before .before .before .before .before .before .before .before .before .before .before .before .before .before .before .before .bump .ensures) (c .before .before .before .before .before .before .before .before .before .before .before .before .before .before .before .before .before .before .before .before .first-name .ensures) (c .before .before .before .before .before .before .before .before .before .before .before .before .before .before .before .before .first .given .1)) refl (c .before .before .before .before .before .before .before .before .before .before .before .before .names .inv) (sym (c .before .before .before .before .before .before .before .before .before .before .before .peek2 .ensures) ∙ c .before .before .before .before .before .before .before .before .before .before .if4 .left) (c .before .before .before .before .before .before .before .before .bump2 .ensures) (c .before .before .before .before .before .before .before .expect-ident .ensures) (c .before .before .before .name .given .1) refl (c .before .before .before .before .before .before .before .expect-ident .kept .1 .0)
 
 close-names-requires : tie.Need-close-names-requires Inv-names μ-names Inv-clauses μ-clauses
-close-names-requires c κs = (c .before .before .before .names .inv 0 .ready, c .before .before .before .before .before .before .before .before .before .before .before .before .before .before .before .before .before .before .before .clauses .inv .ready .inside)
+close-names-requires c κs = (c .before .before .before .names .inv 0 .ready, c .before .before .before .before .before .before .before .before .before .before .before .before .before .before .before .before .before .before .before .clauses .inv One .ready .inside)
 
 expr-clause-requires : tie.Need-expr-clause-requires Inv-names μ-names Inv-clauses μ-clauses
-expr-clause-requires c κs = ((c .before .before .before .before .before .before .before .clauses .inv .ready), is-expr (c .before .before .before .before .before .before .peek .ensures) (c .before .before .if3 .left) (c .before .if5 .taken))
+expr-clause-requires c κs = ((c .before .before .before .before .before .before .before .clauses .inv One .ready), is-expr (c .before .before .before .before .before .before .peek .ensures) (c .before .before .if3 .left) (c .before .if5 .taken))
 
 enum-known-clause : tie.Need-enum-known-clause Inv-names μ-names Inv-clauses μ-clauses
 enum-known-clause c = search needs
 
 same-length-2 : tie.Need-same-length-2 Inv-names μ-names Inv-clauses μ-clauses
-same-length-2 c = (turn (c .before .before .before)) .long ∙ c .before .before .before .before .before .clauses .inv .long
+same-length-2 c = (turn One (c .before .before .before)) .long ∙ c .before .before .before .before .before .clauses .inv One .long
 
 returns-2 : tie.Need-returns-2 Inv-names μ-names Inv-clauses μ-clauses
-returns-2 c = failed-all (runs-bad clauses-run (c .before .before .before .before .before .before .before .before .before .args .allowance) (c .before .before .before .before .before .before .before .before .before .pre) (c .before .before .before .before .before .clauses .inv) ((turn (c .before .before .before)) .goes) fresh (failed-of (c .before .clause .given .1) ((turn (c .before .before .before)) .met)))
+returns-2 c = λ e. failed-all (runs-bad clauses-run (c .before .before .before .before .before .before .before .before .before .args .allowance) (c .before .before .before .before .before .before .before .before .before .pre) (c .before .before .before .before .before .clauses .inv e) ((turn e (c .before .before .before)) .goes) fresh (failed-of (c .before .clause .given .1) ((turn e (c .before .before .before)) .met)))
 
 enum-known-clause-2 : tie.Need-enum-known-clause-2 Inv-names μ-names Inv-clauses μ-clauses
 enum-known-clause-2 c = search needs
 
 add-count : tie.Need-add-count Inv-names μ-names Inv-clauses μ-clauses
-add-count c = omega (arith, c .before .before .before .before .before .before .before .clauses .inv .few, c .before .before .before .before .before .before .before .clauses .inv .ready .inside, c .before .before .before .before .before .before .before .clauses .inv .ready .fits, c .before .before .before .before .before .before .before .before .before .before .before .pre .closed .few)
+add-count c = omega (arith, c .before .before .before .before .before .before .before .clauses .inv One .few, c .before .before .before .before .before .before .before .clauses .inv One .ready .inside, c .before .before .before .before .before .before .before .clauses .inv One .ready .fits, c .before .before .before .before .before .before .before .before .before .before .before .pre .closed .few)
 
 clauses-less : tie.Need-clauses-less Inv-names μ-names Inv-clauses μ-clauses
-clauses-less c = omega (arith, c .before .before .before .before .before .before .before .clauses .inv .ready .inside, runs-less clauses-run (c .before .before .before .before .before .before .before .before .before .before .before .args .allowance) (c .before .before .before .before .before .before .before .before .before .before .before .pre) (c .before .before .before .before .before .before .before .clauses .inv) ((turn (c .before .before .before .before .before)) .goes) (took-of (c .before .before .before .clause2 .given .1) ((turn (c .before .before .before .before .before)) .met)))
+clauses-less c = omega (arith, c .before .before .before .before .before .before .before .clauses .inv One .ready .inside, runs-less clauses-run (c .before .before .before .before .before .before .before .before .before .before .before .args .allowance) (c .before .before .before .before .before .before .before .before .before .before .before .pre) (c .before .before .before .before .before .before .before .clauses .inv One) ((turn One (c .before .before .before .before .before)) .goes) (took-of (c .before .before .before .clause2 .given .1) ((turn One (c .before .before .before .before .before)) .met)))
 
 clauses-again : tie.Need-clauses-again Inv-names μ-names Inv-clauses μ-clauses
-clauses-again c = runs-on clauses-run (c .before .before .before .before .before .before .before .before .before .before .before .args .allowance) (c .before .before .before .before .before .before .before .before .before .before .before .pre) (c .before .before .before .before .before .before .before .clauses .inv) ((turn (c .before .before .before .before .before)) .goes) (took-of (c .before .before .before .clause2 .given .1) ((turn (c .before .before .before .before .before)) .met)) refl ((turn (c .before .before .before .before .before)) .long)
+clauses-again c = λ e. runs-on clauses-run (c .before .before .before .before .before .before .before .before .before .before .before .args .allowance) (c .before .before .before .before .before .before .before .before .before .before .before .pre) (c .before .before .before .before .before .before .before .clauses .inv e) ((turn e (c .before .before .before .before .before)) .goes) (took-of (c .before .before .before .clause2 .given .1) ((turn e (c .before .before .before .before .before)) .met)) refl ((turn e (c .before .before .before .before .before)) .long)
 
 same-length-3 : tie.Need-same-length-3 Inv-names μ-names Inv-clauses μ-clauses
-same-length-3 c = c .before .before .before .clauses .inv .long
+same-length-3 c = c .before .before .before .clauses .inv One .long
 
 returns-3 : tie.Need-returns-3 Inv-names μ-names Inv-clauses μ-clauses
-returns-3 c = took-all (clauses-end (c .before .before .before .clauses .inv) (no-start (c .before .before .before .before .before .before .before .args .src .now) (c .before .before .before .before .before .before .before .args .tokens .now) (c .before .before .before .clauses .at .0) (c .before .before .peek .ensures) (c .before .before .before .before .before .before .before .pre .closed .known (c .before .before .before .clauses .at .0) (c .before .before .before .clauses .inv .ready .inside) .1) (c .before .match .rest .1) (λ k a b e. omega (arith, c .if1 .taken))))
+returns-3 c = λ e. took-all (clauses-end (c .before .before .before .clauses .inv e) (no-start (text e (c .before .before .before .before .before .before .before .args .src .now)) (c .before .before .before .before .before .before .before .args .tokens .now) (c .before .before .before .clauses .at .0) (c .before .before .peek .ensures) (c .before .before .before .before .before .before .before .pre .closed .known (c .before .before .before .clauses .at .0) (c .before .before .before .clauses .inv One .ready .inside) .1) (c .before .match .rest .1) (λ k a b e. omega (arith, c .if1 .taken))))
 
 same-length-4 : tie.Need-same-length-4 Inv-names μ-names Inv-clauses μ-clauses
-same-length-4 c = c .before .before .before .before .before .before .clauses .inv .long
+same-length-4 c = c .before .before .before .before .before .before .clauses .inv One .long
 
 returns-4 : tie.Need-returns-4 Inv-names μ-names Inv-clauses μ-clauses
-returns-4 c = took-all (clauses-end (c .before .before .before .before .before .before .clauses .inv) (no-start (c .before .before .before .before .before .before .before .before .before .before .args .src .now) (c .before .before .before .before .before .before .before .before .before .before .args .tokens .now) (c .before .before .before .before .before .before .clauses .at .0) (c .before .before .before .before .before .peek .ensures) (c .before .before .before .before .before .before .before .before .before .before .pre .closed .known (c .before .before .before .before .before .before .clauses .at .0) (c .before .before .before .before .before .before .clauses .inv .ready .inside) .1) (c .before .before .before .before .match .rest .1) (λ k a b e. omega (arith, c .if5 .left))))
+returns-4 c = λ e. took-all (clauses-end (c .before .before .before .before .before .before .clauses .inv e) (no-start (text e (c .before .before .before .before .before .before .before .before .before .before .args .src .now)) (c .before .before .before .before .before .before .before .before .before .before .args .tokens .now) (c .before .before .before .before .before .before .clauses .at .0) (c .before .before .before .before .before .peek .ensures) (c .before .before .before .before .before .before .before .before .before .before .pre .closed .known (c .before .before .before .before .before .before .clauses .at .0) (c .before .before .before .before .before .before .clauses .inv One .ready .inside) .1) (c .before .before .before .before .match .rest .1) (λ k a b e. omega (arith, c .if5 .left))))
 
 pub clauses-spec : {M : Type 1} → statement M
 clauses-spec =

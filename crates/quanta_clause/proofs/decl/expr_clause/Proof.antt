@@ -1,7 +1,7 @@
 -- `quanta_clause::decl::expr_clause` meets its contract.
 -- Assumes nothing.
-use mathlib.Core.List.{[]}
 use Rattle.quanta_grammar.specs.Productions.{expr}
+use Rattle.quanta_grammar.specs.Refine.{blank}
 use Rattle.quanta_cursor.proofs.Places.{took-ready}
 use Rattle.quanta_cursor.proofs.Meeting.{took, failed, took-of, failed-of}
 use Rattle.quanta_clause.proofs.Clauses.{expr-past, expr-bad, expr-took}
@@ -13,7 +13,7 @@ bump-requires : tie.Need-bump-requires
 bump-requires c κs = search needs
 
 expr-requires : tie.Need-expr-requires
-expr-requires c κs = expr-past [] (c .before .before .before .before .args .tokens .now) 0 (c .before .before .before .before .pre .0) (c .before .before .before .before .pre .1) (c .bump .ensures)
+expr-requires c κs = expr-past blank (c .before .before .before .before .args .tokens .now) 0 (c .before .before .before .before .pre .0) (c .before .before .before .before .pre .1) (c .bump .ensures)
 
 enum-known-e : tie.Need-enum-known-e
 enum-known-e c = search needs
@@ -22,7 +22,7 @@ enum-known-value : tie.Need-enum-known-value
 enum-known-value c = search needs
 
 end-clause-requires : tie.Need-end-clause-requires
-end-clause-requires c κs = (c .before .before .before .before .before .before .before .before .before .before .before .pre .0 .inside, took-ready [] expr (c .before .before .before .before .before .before .before .before .before .before .before .args .allowance) (expr-past [] (c .before .before .before .before .before .before .before .before .before .before .before .args .tokens .now) 0 (c .before .before .before .before .before .before .before .before .before .before .before .pre .0) (c .before .before .before .before .before .before .before .before .before .before .before .pre .1) (c .before .before .before .before .before .before .before .bump .ensures)) (took-of (c .before .before .value .given .1) (c .before .before .before .before .before .before .expr .ensures [])))
+end-clause-requires c κs = (c .before .before .before .before .before .before .before .before .before .before .before .pre .0 .inside, took-ready blank expr (c .before .before .before .before .before .before .before .before .before .before .before .args .allowance) (expr-past blank (c .before .before .before .before .before .before .before .before .before .before .before .args .tokens .now) 0 (c .before .before .before .before .before .before .before .before .before .before .before .pre .0) (c .before .before .before .before .before .before .before .before .before .before .before .pre .1) (c .before .before .before .before .before .before .before .bump .ensures)) (took-of (c .before .before .value .given .1) (c .before .before .before .before .before .before .expr .ensures blank)))
 
 same-length : tie.Need-same-length
 same-length c = search needs

@@ -1,6 +1,6 @@
 -- `quanta_clause::decl::name_clause` meets its contract.
 -- Assumes nothing.
-use mathlib.Core.List.{[]}
+use Rattle.quanta_grammar.specs.Refine.{blank}
 use Rattle.quanta_cursor.proofs.Meeting.{took, failed}
 use Rattle.quanta_clause.proofs.Clauses.{name-past, name-bad, name-ready, name-took}
 use borrow.Author.Needs.{needs}
@@ -11,7 +11,7 @@ bump-requires : tie.Need-bump-requires
 bump-requires c κs = search needs
 
 expect-ident-requires : tie.Need-expect-ident-requires
-expect-ident-requires c κs = name-past [] (c .before .before .before .before .args .tokens .now) 0 (c .before .before .before .before .pre .0) (c .before .before .before .before .pre .1) (c .bump .ensures)
+expect-ident-requires c κs = name-past blank (c .before .before .before .before .args .tokens .now) 0 (c .before .before .before .before .pre .0) (c .before .before .before .before .pre .1) (c .bump .ensures)
 
 enum-known-e : tie.Need-enum-known-e
 enum-known-e c = search needs
@@ -20,7 +20,7 @@ enum-known-asset : tie.Need-enum-known-asset
 enum-known-asset c = search needs
 
 end-clause-requires : tie.Need-end-clause-requires
-end-clause-requires c κs = (c .before .before .before .before .before .before .before .before .before .before .before .pre .0 .inside, name-ready [] (c .before .before .before .before .before .before .before .before .before .before .before .args .tokens .now) 0 (c .before .before .before .before .before .before .before .before .before .before .before .pre .0) (c .before .before .before .before .before .before .before .before .before .before .before .pre .1) (c .before .before .before .before .before .before .before .bump .ensures) (c .before .before .before .before .before .before .expect-ident .ensures) (c .before .before .asset .given .1))
+end-clause-requires c κs = (c .before .before .before .before .before .before .before .before .before .before .before .pre .0 .inside, name-ready blank (c .before .before .before .before .before .before .before .before .before .before .before .args .tokens .now) 0 (c .before .before .before .before .before .before .before .before .before .before .before .pre .0) (c .before .before .before .before .before .before .before .before .before .before .before .pre .1) (c .before .before .before .before .before .before .before .bump .ensures) (c .before .before .before .before .before .before .expect-ident .ensures) (c .before .before .asset .given .1))
 
 same-length : tie.Need-same-length
 same-length c = search needs

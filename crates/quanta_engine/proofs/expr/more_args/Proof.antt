@@ -2,11 +2,11 @@
 -- The measure: the tokens ahead.
 -- Assumes nothing.
 use mathlib.Core.Path.{_≡_, refl, sym, _∙_}
-use mathlib.Core.List.{[]}
 use Prim.Native.Nat.{_-_}
 use native.Mathlib.Omega.{arith}
 use Rattle.quanta_token.specs.TokenKind.{code, Comma}
 use Rattle.quanta_grammar.specs.Productions.{expr, moreArgs}
+use Rattle.quanta_grammar.specs.Refine.{blank}
 use Rattle.quanta_cursor.specs.Tokens.{size, kindAt, Ready}
 use Rattle.quanta_cursor.proofs.Places.{past-as, ready-past, ready-small, took-onward, took-ready}
 use Rattle.quanta_cursor.proofs.Meeting.{took-all, failed-all, took-of, failed-of}
@@ -90,8 +90,8 @@ loop-less c =
     let x : Called = search in
     let b = x .before in
     let h = head b in
-    let z = took-of (a .arg .given .1) (x .expr .ensures []) in
-    let y = took-onward [] expr (start h .args .allowance) (further b .inside) z in
+    let z = took-of (a .arg .given .1) (x .expr .ensures blank) in
+    let y = took-onward blank expr (start h .args .allowance) (further b .inside) z in
     omega (arith, y .0, b .bump .ensures, h .loop .inv .ready .inside)
 
 loop-again : tie.Need-loop-again Inv μ
@@ -101,11 +101,11 @@ loop-again c =
     let b = x .before in
     let h = head b in
     let i = h .loop .inv in
-    let y = took-of (a .arg .given .1) (x .expr .ensures []) in
+    let y = took-of (a .arg .given .1) (x .expr .ensures blank) in
     rolling-on i
     (λ src o t n z g. comma-on g arguments (i .ready .inside) (comma b) (b .bump .ensures)
     (took-of (a .arg .given .1) (x .expr .ensures src)) refl)
-    (took-ready [] expr (start h .args .allowance) (further b) y) refl (took-more y) (x .expr .kept .1 .0)
+    (took-ready blank expr (start h .args .allowance) (further b) y) refl (took-more y) (x .expr .kept .1 .0)
 
 pub more-args-spec : {M : Type 1} → statement M
 more-args-spec =

@@ -4,7 +4,6 @@
 use borrow.Author.Needs.{needs}
 use native.Mathlib.Omega.{arith}
 use mathlib.Core.Path.{refl, sym, _∙_}
-use mathlib.Core.List.{[]}
 use Prim.Native.Nat.{_+_, _-_, _*_}
 use Rattle.quanta_token.specs.TokenKind.{code, Dot, LParen, RParen, Comma, Checked, Wrapping, OrOr, AndAnd, Shr}
 use Rattle.quanta_grammar.specs.NodeKind.{unary-node, binary-node}
@@ -17,7 +16,7 @@ use Rattle.quanta_cursor.proofs.Meeting.{took, failed, failed-by, took-all, fai
 use Rattle.quanta_cursor.proofs.Lists.{Rolling, rolling-in, rolling-on, rolled, arguments, comma-on, comma-bad, comma-stop, took-more}
 use Rattle.quanta_cursor.proofs.Doing.{close-ready}
 use Rattle.quanta_expr.proofs.Tables.{flagged-at, unflagged-at, leaf-at, no-leaf-at}
-use Rattle.quanta_expr.proofs.Chains.{Chain, chain-in, chain-on, operates, link-past, level-first, level-bad, link-stop, link-deep, link-bad, link-on, link-ready}
+use Rattle.quanta_expr.proofs.Chains.{no-shift, Chain, chain-in, chain-on, operates, link-past, level-first, level-bad, link-stop, link-deep, link-bad, link-on, link-ready}
 use Rattle.quanta_expr.proofs.Suffixes.{postfix-first, postfix-bad, is-start, suffix-stop, suffix-deep, dot-bad, dot-on, args-bad, call-bad, call-on, start-past, access-of, no-access-of, dot-ready}
 use Rattle.quanta_expr.proofs.Phrases.{expr-deep, expr-in, unary-plain, unary-deep, unary-bad, unary-took, prefix-past, leaf-took, primary-none, parens-bad, parens-met, at-checked, at-wrapping, wrap-unopened, wrap-bad, wrap-met}
 use Rattle.quanta_expr.proofs.Arguments.{args-none, args-first, args-first-bad}
@@ -80,6 +79,7 @@ use Rattle.quanta_expr.proofs.op.multiplicative_op.Reads as multiplicat
 use Rattle.quanta_expr.proofs.op.prefix_op.Reads as prefix-op-reads
 use Rattle.quanta_expr.proofs.expr.+additive+call_args+comparison+equality+expr+logic_and+logic_or+multiplicative+postfix+primary+shift+unary.{statement}
 use Rattle.quanta_expr.proofs.expr.+additive+call_args+comparison+equality+expr+logic_and+logic_or+multiplicative+postfix+primary+shift+unary.Tie.{close}
+use Rattle.quanta_grammar.specs.Refine.{blank}
 
 abbrev μ-additive : Measures 2 additive-kinds.ps ℕ
 μ-additive κs a = a .1 .1 .1 .1 .0 * 16 + 5
@@ -249,7 +249,7 @@ additive-returns : (t : ℕ) → additive-lts.Need-returns (additive-calls t) (a
 additive-returns t c = λ src. failed-by (c .enum-told .given .1) (level-bad pr.additive src (c .before .before .before .before .before .before .before .before .args .tokens .now) (c .before .before .before .before .before .before .before .before .args .at .0) (c .before .before .before .before .before .before .before .before .args .allowance) (failed-of (c .enum-told .given .1) (c .before .before .before .before .multiplicative .ensures src)))
 
 additive-loop-holds : (t : ℕ) → additive-lts.Need-loop-holds (additive-calls t) (additive-at t) additive.Post additive-Inv-loop additive-μ-loop
-additive-loop-holds t c = chain-in (took-ready [] (pr.level pr.multiplicative) (c .before .before .before .before .before .before .before .before .before .args .allowance) (c .before .before .before .before .before .before .before .before .before .pre .1) (took-of (c .before .first .given .1) (c .before .before .before .before .before .multiplicative .ensures [])))
+additive-loop-holds t c = chain-in (took-ready blank (pr.level pr.multiplicative) (c .before .before .before .before .before .before .before .before .before .args .allowance) (c .before .before .before .before .before .before .before .before .before .pre .1) (took-of (c .before .first .given .1) (c .before .before .before .before .before .multiplicative .ensures blank)))
 
 additive-peek-requires : (t : ℕ) → additive-lts.Need-peek-requires (additive-calls t) (additive-at t) additive.Post additive-Inv-loop additive-μ-loop
 additive-peek-requires t c κs = (c .before .loop .inv .ready .inside)
@@ -297,13 +297,13 @@ additive-enum-known-right : (t : ℕ) → additive-lts.Need-enum-known-right (ad
 additive-enum-known-right t c = search needs
 
 additive-fold-requires : (t : ℕ) → additive-lts.Need-fold-requires (additive-calls t) (additive-at t) additive.Post additive-Inv-loop additive-μ-loop
-additive-fold-requires t c κs = (ready-small (c .before .before .before .before .before .before .before .before .before .before .before .before .before .before .before .before .before .before .loop .inv .ready), ready-few (took-ready [] (pr.level pr.multiplicative) _ (ready-past (c .before .before .before .before .before .before .before .before .before .before .before .before .before .before .before .before .before .before .loop .inv .ready) (link-past pr.additive (c .before .before .before .before .before .before .before .before .before .before .before .before .before .before .before .before .before .before .loop .inv .ready) (flagged-at (operators pr.additive) binary-node (c .before .before .before .before .before .before .before .before .before .before .before .before .before .before .before .before .peek .ensures) (c .before .before .before .before .before .before .before .before .before .before .before .before .before .before .before .additive-op .ensures) (c .before .before .before .before .before .before .before .before .before .before .before .before .before .before .if1 .left))) (c .before .before .before .before .before .before .before .before .before .before .before .before .before .bump .ensures)) (took-of (c .before .before .right .given .1) (c .before .before .before .before .before .before .multiplicative2 .ensures []))))
+additive-fold-requires t c κs = (ready-small (c .before .before .before .before .before .before .before .before .before .before .before .before .before .before .before .before .before .before .loop .inv .ready), ready-few (took-ready blank (pr.level pr.multiplicative) _ (ready-past (c .before .before .before .before .before .before .before .before .before .before .before .before .before .before .before .before .before .before .loop .inv .ready) (link-past pr.additive (c .before .before .before .before .before .before .before .before .before .before .before .before .before .before .before .before .before .before .loop .inv .ready) (flagged-at (operators pr.additive) binary-node (c .before .before .before .before .before .before .before .before .before .before .before .before .before .before .before .before .peek .ensures) (c .before .before .before .before .before .before .before .before .before .before .before .before .before .before .before .additive-op .ensures) (c .before .before .before .before .before .before .before .before .before .before .before .before .before .before .if1 .left))) (c .before .before .before .before .before .before .before .before .before .before .before .before .before .bump .ensures)) (took-of (c .before .before .right .given .1) (c .before .before .before .before .before .before .multiplicative2 .ensures blank))))
 
 additive-loop-less : (t : ℕ) → additive-lts.Need-loop-less (additive-calls t) (additive-at t) additive.Post additive-Inv-loop additive-μ-loop
 additive-loop-less t c = let z = (left-of (c .before .before .before .before .before .before .before .before .before .before .before .before .before .less .given .1) (c .before .before .before .before .before .before .before .before .before .before .before .before .before .before .before .enter .ensures)) in omega (arith, z .0, z .1)
 
 additive-loop-again : (t : ℕ) → additive-lts.Need-loop-again (additive-calls t) (additive-at t) additive.Post additive-Inv-loop additive-μ-loop
-additive-loop-again t c = let z = (left-of (c .before .before .before .before .before .before .before .before .before .before .before .before .before .less .given .1) (c .before .before .before .before .before .before .before .before .before .before .before .before .before .before .before .enter .ensures)) in chain-on (c .before .before .before .before .before .before .before .before .before .before .before .before .before .before .before .before .before .before .before .before .before .loop .inv) (λ src o t n x. link-on pr.additive x (c .before .before .before .before .before .before .before .before .before .before .before .before .before .before .before .before .before .before .before .before .before .loop .inv .ready .inside) (flagged-at (operators pr.additive) binary-node (c .before .before .before .before .before .before .before .before .before .before .before .before .before .before .before .before .before .before .before .peek .ensures) (c .before .before .before .before .before .before .before .before .before .before .before .before .before .before .before .before .before .before .additive-op .ensures) (c .before .before .before .before .before .before .before .before .before .before .before .before .before .before .before .before .before .if1 .left)) (c .before .before .before .before .before .before .before .before .before .before .before .before .before .before .before .before .bump .ensures) z (took-of (c .before .before .before .before .before .right .given .1) (c .before .before .before .before .before .before .before .before .before .multiplicative2 .ensures src)) (c .before .before .fold .ensures .0) (c .before .before .fold .ensures .1)) (link-ready [] pr.additive (c .before .before .before .before .before .before .before .before .before .before .before .before .before .before .before .before .before .before .before .before .before .loop .left) _ (c .before .before .before .before .before .before .before .before .before .before .before .before .before .before .before .before .before .before .before .before .before .loop .inv .ready) (link-past pr.additive (c .before .before .before .before .before .before .before .before .before .before .before .before .before .before .before .before .before .before .before .before .before .loop .inv .ready) (flagged-at (operators pr.additive) binary-node (c .before .before .before .before .before .before .before .before .before .before .before .before .before .before .before .before .before .before .before .peek .ensures) (c .before .before .before .before .before .before .before .before .before .before .before .before .before .before .before .before .before .before .additive-op .ensures) (c .before .before .before .before .before .before .before .before .before .before .before .before .before .before .before .before .before .if1 .left))) (c .before .before .before .before .before .before .before .before .before .before .before .before .before .before .before .before .bump .ensures) (took-of (c .before .before .before .before .before .right .given .1) (c .before .before .before .before .before .before .before .before .before .multiplicative2 .ensures [])) (c .before .before .fold .ensures .0)) (omega (arith, z .0, z .1)) (c .before .before .fold .kept .0 ∙ c .before .before .before .before .before .before .before .before .before .multiplicative2 .kept .1 .0)
+additive-loop-again t c = let z = (left-of (c .before .before .before .before .before .before .before .before .before .before .before .before .before .less .given .1) (c .before .before .before .before .before .before .before .before .before .before .before .before .before .before .before .enter .ensures)) in chain-on (c .before .before .before .before .before .before .before .before .before .before .before .before .before .before .before .before .before .before .before .before .before .loop .inv) (λ src o t n x. link-on pr.additive x (c .before .before .before .before .before .before .before .before .before .before .before .before .before .before .before .before .before .before .before .before .before .loop .inv .ready .inside) (flagged-at (operators pr.additive) binary-node (c .before .before .before .before .before .before .before .before .before .before .before .before .before .before .before .before .before .before .before .peek .ensures) (c .before .before .before .before .before .before .before .before .before .before .before .before .before .before .before .before .before .before .additive-op .ensures) (c .before .before .before .before .before .before .before .before .before .before .before .before .before .before .before .before .before .if1 .left)) (c .before .before .before .before .before .before .before .before .before .before .before .before .before .before .before .before .bump .ensures) z (took-of (c .before .before .before .before .before .right .given .1) (c .before .before .before .before .before .before .before .before .before .multiplicative2 .ensures src)) (c .before .before .fold .ensures .0) (c .before .before .fold .ensures .1)) (link-ready blank pr.additive (c .before .before .before .before .before .before .before .before .before .before .before .before .before .before .before .before .before .before .before .before .before .loop .left) _ (c .before .before .before .before .before .before .before .before .before .before .before .before .before .before .before .before .before .before .before .before .before .loop .inv .ready) (link-past pr.additive (c .before .before .before .before .before .before .before .before .before .before .before .before .before .before .before .before .before .before .before .before .before .loop .inv .ready) (flagged-at (operators pr.additive) binary-node (c .before .before .before .before .before .before .before .before .before .before .before .before .before .before .before .before .before .before .before .peek .ensures) (c .before .before .before .before .before .before .before .before .before .before .before .before .before .before .before .before .before .before .additive-op .ensures) (c .before .before .before .before .before .before .before .before .before .before .before .before .before .before .before .before .before .if1 .left))) (c .before .before .before .before .before .before .before .before .before .before .before .before .before .before .before .before .bump .ensures) (took-of (c .before .before .before .before .before .right .given .1) (c .before .before .before .before .before .before .before .before .before .multiplicative2 .ensures blank)) (c .before .before .fold .ensures .0)) (omega (arith, z .0, z .1)) (c .before .before .fold .kept .0 ∙ c .before .before .before .before .before .before .before .before .before .multiplicative2 .kept .1 .0)
 
 abbrev call-args-Inv-loop : call-args-lts.InvT-loop
 call-args-Inv-loop tokens tree₀ allowance at₀ no₀ count₀ tree at no' count = Rolling pr.moreArgs tokens allowance (at₀ .0) (no₀ .0) count₀ tree₀ (at .0) (no' .0) count tree
@@ -327,7 +327,7 @@ call-args-enum-known-first : (t : ℕ) → call-args-lts.Need-enum-known-first (
 call-args-enum-known-first t c = search needs
 
 call-args-loop-holds : (t : ℕ) → call-args-lts.Need-loop-holds (call-args-calls t) (call-args-at t) call-args.Post call-args-Inv-loop call-args-μ-loop
-call-args-loop-holds t c = let y = took-more (took-of (c .before .before .before .first .given .1) (c .before .before .before .before .before .before .before .expr .ensures [])) in rolling-in (took-ready [] pr.expr (c .before .before .before .before .before .before .before .before .before .before .before .before .before .args .allowance) (c .before .before .before .before .before .before .before .before .before .before .before .before .before .pre .1) (took-of (c .before .before .before .first .given .1) (c .before .before .before .before .before .before .before .expr .ensures []))) (omega arith)
+call-args-loop-holds t c = let y = took-more (took-of (c .before .before .before .first .given .1) (c .before .before .before .before .before .before .before .expr .ensures blank)) in rolling-in (took-ready blank pr.expr (c .before .before .before .before .before .before .before .before .before .before .before .before .before .args .allowance) (c .before .before .before .before .before .before .before .before .before .before .before .before .before .pre .1) (took-of (c .before .before .before .first .given .1) (c .before .before .before .before .before .before .before .expr .ensures blank))) (omega arith)
 
 call-args-peek-requires-2 : (t : ℕ) → call-args-lts.Need-peek-requires-2 (call-args-calls t) (call-args-at t) call-args.Post call-args-Inv-loop call-args-μ-loop
 call-args-peek-requires-2 t c κs = (c .loop .inv .ready .inside)
@@ -360,10 +360,10 @@ call-args-add-count : (t : ℕ) → call-args-lts.Need-add-count (call-args-call
 call-args-add-count t c = omega (arith, c .before .before .before .before .before .before .before .before .before .before .before .before .loop .inv .few, ready-few (c .before .before .before .before .before .before .before .before .before .before .before .before .loop .inv .ready), (c .before .before .before .before .before .before .before .before .before .before .before .before .loop .inv .ready .inside), c .before .before .before .before .before .before .before .before .before .before .before .before .loop .inv .ready .fits, (c .before .before .before .before .before .before .before .before .before .before .before .before .before .before .before .before .before .before .before .before .before .before .before .before .before .before .pre .1 .closed) .few)
 
 call-args-loop-less : (t : ℕ) → call-args-lts.Need-loop-less (call-args-calls t) (call-args-at t) call-args.Post call-args-Inv-loop call-args-μ-loop
-call-args-loop-less t c = let y = took-onward [] pr.expr (c .before .before .before .before .before .before .before .before .before .before .before .before .before .before .before .before .before .before .before .before .before .before .before .before .before .before .args .allowance) ((ready-past (c .before .before .before .before .before .before .before .before .before .before .before .before .loop .inv .ready) (past-as (code Comma) (λ u. u) (c .before .before .before .before .before .before .before .before .before .before .before .before .before .before .before .before .before .before .before .before .before .before .before .before .before .before .pre .1 .closed) (c .before .before .before .before .before .before .before .before .before .before .before .before .loop .inv .ready .inside) (sym (c .before .before .before .before .before .before .before .before .before .before .before .peek2 .ensures) ∙ c .before .before .before .before .before .before .before .before .before .before .if2 .left)) (c .before .before .before .before .before .before .before .before .bump .ensures)) .inside) (took-of (c .before .before .before .arg .given .1) (c .before .before .before .before .before .before .before .expr2 .ensures [])) in omega (arith, y .0, c .before .before .before .before .before .before .before .before .bump .ensures, (c .before .before .before .before .before .before .before .before .before .before .before .before .loop .inv .ready .inside))
+call-args-loop-less t c = let y = took-onward blank pr.expr (c .before .before .before .before .before .before .before .before .before .before .before .before .before .before .before .before .before .before .before .before .before .before .before .before .before .before .args .allowance) ((ready-past (c .before .before .before .before .before .before .before .before .before .before .before .before .loop .inv .ready) (past-as (code Comma) (λ u. u) (c .before .before .before .before .before .before .before .before .before .before .before .before .before .before .before .before .before .before .before .before .before .before .before .before .before .before .pre .1 .closed) (c .before .before .before .before .before .before .before .before .before .before .before .before .loop .inv .ready .inside) (sym (c .before .before .before .before .before .before .before .before .before .before .before .peek2 .ensures) ∙ c .before .before .before .before .before .before .before .before .before .before .if2 .left)) (c .before .before .before .before .before .before .before .before .bump .ensures)) .inside) (took-of (c .before .before .before .arg .given .1) (c .before .before .before .before .before .before .before .expr2 .ensures blank)) in omega (arith, y .0, c .before .before .before .before .before .before .before .before .bump .ensures, (c .before .before .before .before .before .before .before .before .before .before .before .before .loop .inv .ready .inside))
 
 call-args-loop-again : (t : ℕ) → call-args-lts.Need-loop-again (call-args-calls t) (call-args-at t) call-args.Post call-args-Inv-loop call-args-μ-loop
-call-args-loop-again t c = rolling-on (c .before .before .before .before .before .before .before .before .before .before .before .before .loop .inv) (λ src o t n x g. comma-on g arguments (c .before .before .before .before .before .before .before .before .before .before .before .before .loop .inv .ready .inside) (sym (c .before .before .before .before .before .before .before .before .before .before .before .peek2 .ensures) ∙ c .before .before .before .before .before .before .before .before .before .before .if2 .left) (c .before .before .before .before .before .before .before .before .bump .ensures) (took-of (c .before .before .before .arg .given .1) (c .before .before .before .before .before .before .before .expr2 .ensures src)) refl) (took-ready [] pr.expr (c .before .before .before .before .before .before .before .before .before .before .before .before .before .before .before .before .before .before .before .before .before .before .before .before .before .before .args .allowance) (ready-past (c .before .before .before .before .before .before .before .before .before .before .before .before .loop .inv .ready) (past-as (code Comma) (λ u. u) (c .before .before .before .before .before .before .before .before .before .before .before .before .before .before .before .before .before .before .before .before .before .before .before .before .before .before .pre .1 .closed) (c .before .before .before .before .before .before .before .before .before .before .before .before .loop .inv .ready .inside) (sym (c .before .before .before .before .before .before .before .before .before .before .before .peek2 .ensures) ∙ c .before .before .before .before .before .before .before .before .before .before .if2 .left)) (c .before .before .before .before .before .before .before .before .bump .ensures)) (took-of (c .before .before .before .arg .given .1) (c .before .before .before .before .before .before .before .expr2 .ensures []))) refl (took-more (took-of (c .before .before .before .arg .given .1) (c .before .before .before .before .before .before .before .expr2 .ensures []))) (c .before .before .before .before .before .before .before .expr2 .kept .1 .0)
+call-args-loop-again t c = rolling-on (c .before .before .before .before .before .before .before .before .before .before .before .before .loop .inv) (λ src o t n x g. comma-on g arguments (c .before .before .before .before .before .before .before .before .before .before .before .before .loop .inv .ready .inside) (sym (c .before .before .before .before .before .before .before .before .before .before .before .peek2 .ensures) ∙ c .before .before .before .before .before .before .before .before .before .before .if2 .left) (c .before .before .before .before .before .before .before .before .bump .ensures) (took-of (c .before .before .before .arg .given .1) (c .before .before .before .before .before .before .before .expr2 .ensures src)) refl) (took-ready blank pr.expr (c .before .before .before .before .before .before .before .before .before .before .before .before .before .before .before .before .before .before .before .before .before .before .before .before .before .before .args .allowance) (ready-past (c .before .before .before .before .before .before .before .before .before .before .before .before .loop .inv .ready) (past-as (code Comma) (λ u. u) (c .before .before .before .before .before .before .before .before .before .before .before .before .before .before .before .before .before .before .before .before .before .before .before .before .before .before .pre .1 .closed) (c .before .before .before .before .before .before .before .before .before .before .before .before .loop .inv .ready .inside) (sym (c .before .before .before .before .before .before .before .before .before .before .before .peek2 .ensures) ∙ c .before .before .before .before .before .before .before .before .before .before .if2 .left)) (c .before .before .before .before .before .before .before .before .bump .ensures)) (took-of (c .before .before .before .arg .given .1) (c .before .before .before .before .before .before .before .expr2 .ensures blank))) refl (took-more (took-of (c .before .before .before .arg .given .1) (c .before .before .before .before .before .before .before .expr2 .ensures blank))) (c .before .before .before .before .before .before .before .expr2 .kept .1 .0)
 
 call-args-same-length-3 : (t : ℕ) → call-args-lts.Need-same-length-3 (call-args-calls t) (call-args-at t) call-args.Post call-args-Inv-loop call-args-μ-loop
 call-args-same-length-3 t c = c .before .before .before .before .before .expr .kept .1 .0
@@ -393,7 +393,7 @@ comparison-returns : (t : ℕ) → comparison-lts.Need-returns (comparison-calls
 comparison-returns t c = λ src. failed-by (c .enum-told .given .1) (level-bad pr.comparison src (c .before .before .before .before .before .before .before .before .args .tokens .now) (c .before .before .before .before .before .before .before .before .args .at .0) (c .before .before .before .before .before .before .before .before .args .allowance) (failed-of (c .enum-told .given .1) (c .before .before .before .before .shift .ensures src)))
 
 comparison-loop-holds : (t : ℕ) → comparison-lts.Need-loop-holds (comparison-calls t) (comparison-at t) comparison.Post comparison-Inv-loop comparison-μ-loop
-comparison-loop-holds t c = chain-in (took-ready [] (pr.level pr.shift) (c .before .before .before .before .before .before .before .before .before .args .allowance) (c .before .before .before .before .before .before .before .before .before .pre .1) (took-of (c .before .first .given .1) (c .before .before .before .before .before .shift .ensures [])))
+comparison-loop-holds t c = chain-in (took-ready blank (pr.level pr.shift) (c .before .before .before .before .before .before .before .before .before .args .allowance) (c .before .before .before .before .before .before .before .before .before .pre .1) (took-of (c .before .first .given .1) (c .before .before .before .before .before .shift .ensures blank)))
 
 comparison-peek-requires : (t : ℕ) → comparison-lts.Need-peek-requires (comparison-calls t) (comparison-at t) comparison.Post comparison-Inv-loop comparison-μ-loop
 comparison-peek-requires t c κs = (c .before .loop .inv .ready .inside)
@@ -441,13 +441,13 @@ comparison-enum-known-right : (t : ℕ) → comparison-lts.Need-enum-known-right
 comparison-enum-known-right t c = search needs
 
 comparison-fold-requires : (t : ℕ) → comparison-lts.Need-fold-requires (comparison-calls t) (comparison-at t) comparison.Post comparison-Inv-loop comparison-μ-loop
-comparison-fold-requires t c κs = (ready-small (c .before .before .before .before .before .before .before .before .before .before .before .before .before .before .before .before .before .before .loop .inv .ready), ready-few (took-ready [] (pr.level pr.shift) _ (ready-past (c .before .before .before .before .before .before .before .before .before .before .before .before .before .before .before .before .before .before .loop .inv .ready) (link-past pr.comparison (c .before .before .before .before .before .before .before .before .before .before .before .before .before .before .before .before .before .before .loop .inv .ready) (flagged-at (operators pr.comparison) binary-node (c .before .before .before .before .before .before .before .before .before .before .before .before .before .before .before .before .peek .ensures) (c .before .before .before .before .before .before .before .before .before .before .before .before .before .before .before .comparison-op .ensures) (c .before .before .before .before .before .before .before .before .before .before .before .before .before .before .if1 .left))) (c .before .before .before .before .before .before .before .before .before .before .before .before .before .bump .ensures)) (took-of (c .before .before .right .given .1) (c .before .before .before .before .before .before .shift2 .ensures []))))
+comparison-fold-requires t c κs = (ready-small (c .before .before .before .before .before .before .before .before .before .before .before .before .before .before .before .before .before .before .loop .inv .ready), ready-few (took-ready blank (pr.level pr.shift) _ (ready-past (c .before .before .before .before .before .before .before .before .before .before .before .before .before .before .before .before .before .before .loop .inv .ready) (link-past pr.comparison (c .before .before .before .before .before .before .before .before .before .before .before .before .before .before .before .before .before .before .loop .inv .ready) (flagged-at (operators pr.comparison) binary-node (c .before .before .before .before .before .before .before .before .before .before .before .before .before .before .before .before .peek .ensures) (c .before .before .before .before .before .before .before .before .before .before .before .before .before .before .before .comparison-op .ensures) (c .before .before .before .before .before .before .before .before .before .before .before .before .before .before .if1 .left))) (c .before .before .before .before .before .before .before .before .before .before .before .before .before .bump .ensures)) (took-of (c .before .before .right .given .1) (c .before .before .before .before .before .before .shift2 .ensures blank))))
 
 comparison-loop-less : (t : ℕ) → comparison-lts.Need-loop-less (comparison-calls t) (comparison-at t) comparison.Post comparison-Inv-loop comparison-μ-loop
 comparison-loop-less t c = let z = (left-of (c .before .before .before .before .before .before .before .before .before .before .before .before .before .less .given .1) (c .before .before .before .before .before .before .before .before .before .before .before .before .before .before .before .enter .ensures)) in omega (arith, z .0, z .1)
 
 comparison-loop-again : (t : ℕ) → comparison-lts.Need-loop-again (comparison-calls t) (comparison-at t) comparison.Post comparison-Inv-loop comparison-μ-loop
-comparison-loop-again t c = let z = (left-of (c .before .before .before .before .before .before .before .before .before .before .before .before .before .less .given .1) (c .before .before .before .before .before .before .before .before .before .before .before .before .before .before .before .enter .ensures)) in chain-on (c .before .before .before .before .before .before .before .before .before .before .before .before .before .before .before .before .before .before .before .before .before .loop .inv) (λ src o t n x. link-on pr.comparison x (c .before .before .before .before .before .before .before .before .before .before .before .before .before .before .before .before .before .before .before .before .before .loop .inv .ready .inside) (flagged-at (operators pr.comparison) binary-node (c .before .before .before .before .before .before .before .before .before .before .before .before .before .before .before .before .before .before .before .peek .ensures) (c .before .before .before .before .before .before .before .before .before .before .before .before .before .before .before .before .before .before .comparison-op .ensures) (c .before .before .before .before .before .before .before .before .before .before .before .before .before .before .before .before .before .if1 .left)) (c .before .before .before .before .before .before .before .before .before .before .before .before .before .before .before .before .bump .ensures) z (took-of (c .before .before .before .before .before .right .given .1) (c .before .before .before .before .before .before .before .before .before .shift2 .ensures src)) (c .before .before .fold .ensures .0) (c .before .before .fold .ensures .1)) (link-ready [] pr.comparison (c .before .before .before .before .before .before .before .before .before .before .before .before .before .before .before .before .before .before .before .before .before .loop .left) _ (c .before .before .before .before .before .before .before .before .before .before .before .before .before .before .before .before .before .before .before .before .before .loop .inv .ready) (link-past pr.comparison (c .before .before .before .before .before .before .before .before .before .before .before .before .before .before .before .before .before .before .before .before .before .loop .inv .ready) (flagged-at (operators pr.comparison) binary-node (c .before .before .before .before .before .before .before .before .before .before .before .before .before .before .before .before .before .before .before .peek .ensures) (c .before .before .before .before .before .before .before .before .before .before .before .before .before .before .before .before .before .before .comparison-op .ensures) (c .before .before .before .before .before .before .before .before .before .before .before .before .before .before .before .before .before .if1 .left))) (c .before .before .before .before .before .before .before .before .before .before .before .before .before .before .before .before .bump .ensures) (took-of (c .before .before .before .before .before .right .given .1) (c .before .before .before .before .before .before .before .before .before .shift2 .ensures [])) (c .before .before .fold .ensures .0)) (omega (arith, z .0, z .1)) (c .before .before .fold .kept .0 ∙ c .before .before .before .before .before .before .before .before .before .shift2 .kept .1 .0)
+comparison-loop-again t c = let z = (left-of (c .before .before .before .before .before .before .before .before .before .before .before .before .before .less .given .1) (c .before .before .before .before .before .before .before .before .before .before .before .before .before .before .before .enter .ensures)) in chain-on (c .before .before .before .before .before .before .before .before .before .before .before .before .before .before .before .before .before .before .before .before .before .loop .inv) (λ src o t n x. link-on pr.comparison x (c .before .before .before .before .before .before .before .before .before .before .before .before .before .before .before .before .before .before .before .before .before .loop .inv .ready .inside) (flagged-at (operators pr.comparison) binary-node (c .before .before .before .before .before .before .before .before .before .before .before .before .before .before .before .before .before .before .before .peek .ensures) (c .before .before .before .before .before .before .before .before .before .before .before .before .before .before .before .before .before .before .comparison-op .ensures) (c .before .before .before .before .before .before .before .before .before .before .before .before .before .before .before .before .before .if1 .left)) (c .before .before .before .before .before .before .before .before .before .before .before .before .before .before .before .before .bump .ensures) z (took-of (c .before .before .before .before .before .right .given .1) (c .before .before .before .before .before .before .before .before .before .shift2 .ensures src)) (c .before .before .fold .ensures .0) (c .before .before .fold .ensures .1)) (link-ready blank pr.comparison (c .before .before .before .before .before .before .before .before .before .before .before .before .before .before .before .before .before .before .before .before .before .loop .left) _ (c .before .before .before .before .before .before .before .before .before .before .before .before .before .before .before .before .before .before .before .before .before .loop .inv .ready) (link-past pr.comparison (c .before .before .before .before .before .before .before .before .before .before .before .before .before .before .before .before .before .before .before .before .before .loop .inv .ready) (flagged-at (operators pr.comparison) binary-node (c .before .before .before .before .before .before .before .before .before .before .before .before .before .before .before .before .before .before .before .peek .ensures) (c .before .before .before .before .before .before .before .before .before .before .before .before .before .before .before .before .before .before .comparison-op .ensures) (c .before .before .before .before .before .before .before .before .before .before .before .before .before .before .before .before .before .if1 .left))) (c .before .before .before .before .before .before .before .before .before .before .before .before .before .before .before .before .bump .ensures) (took-of (c .before .before .before .before .before .right .given .1) (c .before .before .before .before .before .before .before .before .before .shift2 .ensures blank)) (c .before .before .fold .ensures .0)) (omega (arith, z .0, z .1)) (c .before .before .fold .kept .0 ∙ c .before .before .before .before .before .before .before .before .before .shift2 .kept .1 .0)
 
 abbrev equality-Inv-loop : equality-lts.InvT-loop
 equality-Inv-loop tokens tree₀ allowance left₀ depth₀ tree left depth = Chain (pr.links pr.equality) tokens left₀ depth₀ tree₀ left depth tree
@@ -471,7 +471,7 @@ equality-returns : (t : ℕ) → equality-lts.Need-returns (equality-calls t) (e
 equality-returns t c = λ src. failed-by (c .enum-told .given .1) (level-bad pr.equality src (c .before .before .before .before .before .before .before .before .args .tokens .now) (c .before .before .before .before .before .before .before .before .args .at .0) (c .before .before .before .before .before .before .before .before .args .allowance) (failed-of (c .enum-told .given .1) (c .before .before .before .before .comparison .ensures src)))
 
 equality-loop-holds : (t : ℕ) → equality-lts.Need-loop-holds (equality-calls t) (equality-at t) equality.Post equality-Inv-loop equality-μ-loop
-equality-loop-holds t c = chain-in (took-ready [] (pr.level pr.comparison) (c .before .before .before .before .before .before .before .before .before .args .allowance) (c .before .before .before .before .before .before .before .before .before .pre .1) (took-of (c .before .first .given .1) (c .before .before .before .before .before .comparison .ensures [])))
+equality-loop-holds t c = chain-in (took-ready blank (pr.level pr.comparison) (c .before .before .before .before .before .before .before .before .before .args .allowance) (c .before .before .before .before .before .before .before .before .before .pre .1) (took-of (c .before .first .given .1) (c .before .before .before .before .before .comparison .ensures blank)))
 
 equality-peek-requires : (t : ℕ) → equality-lts.Need-peek-requires (equality-calls t) (equality-at t) equality.Post equality-Inv-loop equality-μ-loop
 equality-peek-requires t c κs = (c .before .loop .inv .ready .inside)
@@ -519,13 +519,13 @@ equality-enum-known-right : (t : ℕ) → equality-lts.Need-enum-known-right (eq
 equality-enum-known-right t c = search needs
 
 equality-fold-requires : (t : ℕ) → equality-lts.Need-fold-requires (equality-calls t) (equality-at t) equality.Post equality-Inv-loop equality-μ-loop
-equality-fold-requires t c κs = (ready-small (c .before .before .before .before .before .before .before .before .before .before .before .before .before .before .before .before .before .before .loop .inv .ready), ready-few (took-ready [] (pr.level pr.comparison) _ (ready-past (c .before .before .before .before .before .before .before .before .before .before .before .before .before .before .before .before .before .before .loop .inv .ready) (link-past pr.equality (c .before .before .before .before .before .before .before .before .before .before .before .before .before .before .before .before .before .before .loop .inv .ready) (flagged-at (operators pr.equality) binary-node (c .before .before .before .before .before .before .before .before .before .before .before .before .before .before .before .before .peek .ensures) (c .before .before .before .before .before .before .before .before .before .before .before .before .before .before .before .equality-op .ensures) (c .before .before .before .before .before .before .before .before .before .before .before .before .before .before .if1 .left))) (c .before .before .before .before .before .before .before .before .before .before .before .before .before .bump .ensures)) (took-of (c .before .before .right .given .1) (c .before .before .before .before .before .before .comparison2 .ensures []))))
+equality-fold-requires t c κs = (ready-small (c .before .before .before .before .before .before .before .before .before .before .before .before .before .before .before .before .before .before .loop .inv .ready), ready-few (took-ready blank (pr.level pr.comparison) _ (ready-past (c .before .before .before .before .before .before .before .before .before .before .before .before .before .before .before .before .before .before .loop .inv .ready) (link-past pr.equality (c .before .before .before .before .before .before .before .before .before .before .before .before .before .before .before .before .before .before .loop .inv .ready) (flagged-at (operators pr.equality) binary-node (c .before .before .before .before .before .before .before .before .before .before .before .before .before .before .before .before .peek .ensures) (c .before .before .before .before .before .before .before .before .before .before .before .before .before .before .before .equality-op .ensures) (c .before .before .before .before .before .before .before .before .before .before .before .before .before .before .if1 .left))) (c .before .before .before .before .before .before .before .before .before .before .before .before .before .bump .ensures)) (took-of (c .before .before .right .given .1) (c .before .before .before .before .before .before .comparison2 .ensures blank))))
 
 equality-loop-less : (t : ℕ) → equality-lts.Need-loop-less (equality-calls t) (equality-at t) equality.Post equality-Inv-loop equality-μ-loop
 equality-loop-less t c = let z = (left-of (c .before .before .before .before .before .before .before .before .before .before .before .before .before .less .given .1) (c .before .before .before .before .before .before .before .before .before .before .before .before .before .before .before .enter .ensures)) in omega (arith, z .0, z .1)
 
 equality-loop-again : (t : ℕ) → equality-lts.Need-loop-again (equality-calls t) (equality-at t) equality.Post equality-Inv-loop equality-μ-loop
-equality-loop-again t c = let z = (left-of (c .before .before .before .before .before .before .before .before .before .before .before .before .before .less .given .1) (c .before .before .before .before .before .before .before .before .before .before .before .before .before .before .before .enter .ensures)) in chain-on (c .before .before .before .before .before .before .before .before .before .before .before .before .before .before .before .before .before .before .before .before .before .loop .inv) (λ src o t n x. link-on pr.equality x (c .before .before .before .before .before .before .before .before .before .before .before .before .before .before .before .before .before .before .before .before .before .loop .inv .ready .inside) (flagged-at (operators pr.equality) binary-node (c .before .before .before .before .before .before .before .before .before .before .before .before .before .before .before .before .before .before .before .peek .ensures) (c .before .before .before .before .before .before .before .before .before .before .before .before .before .before .before .before .before .before .equality-op .ensures) (c .before .before .before .before .before .before .before .before .before .before .before .before .before .before .before .before .before .if1 .left)) (c .before .before .before .before .before .before .before .before .before .before .before .before .before .before .before .before .bump .ensures) z (took-of (c .before .before .before .before .before .right .given .1) (c .before .before .before .before .before .before .before .before .before .comparison2 .ensures src)) (c .before .before .fold .ensures .0) (c .before .before .fold .ensures .1)) (link-ready [] pr.equality (c .before .before .before .before .before .before .before .before .before .before .before .before .before .before .before .before .before .before .before .before .before .loop .left) _ (c .before .before .before .before .before .before .before .before .before .before .before .before .before .before .before .before .before .before .before .before .before .loop .inv .ready) (link-past pr.equality (c .before .before .before .before .before .before .before .before .before .before .before .before .before .before .before .before .before .before .before .before .before .loop .inv .ready) (flagged-at (operators pr.equality) binary-node (c .before .before .before .before .before .before .before .before .before .before .before .before .before .before .before .before .before .before .before .peek .ensures) (c .before .before .before .before .before .before .before .before .before .before .before .before .before .before .before .before .before .before .equality-op .ensures) (c .before .before .before .before .before .before .before .before .before .before .before .before .before .before .before .before .before .if1 .left))) (c .before .before .before .before .before .before .before .before .before .before .before .before .before .before .before .before .bump .ensures) (took-of (c .before .before .before .before .before .right .given .1) (c .before .before .before .before .before .before .before .before .before .comparison2 .ensures [])) (c .before .before .fold .ensures .0)) (omega (arith, z .0, z .1)) (c .before .before .fold .kept .0 ∙ c .before .before .before .before .before .before .before .before .before .comparison2 .kept .1 .0)
+equality-loop-again t c = let z = (left-of (c .before .before .before .before .before .before .before .before .before .before .before .before .before .less .given .1) (c .before .before .before .before .before .before .before .before .before .before .before .before .before .before .before .enter .ensures)) in chain-on (c .before .before .before .before .before .before .before .before .before .before .before .before .before .before .before .before .before .before .before .before .before .loop .inv) (λ src o t n x. link-on pr.equality x (c .before .before .before .before .before .before .before .before .before .before .before .before .before .before .before .before .before .before .before .before .before .loop .inv .ready .inside) (flagged-at (operators pr.equality) binary-node (c .before .before .before .before .before .before .before .before .before .before .before .before .before .before .before .before .before .before .before .peek .ensures) (c .before .before .before .before .before .before .before .before .before .before .before .before .before .before .before .before .before .before .equality-op .ensures) (c .before .before .before .before .before .before .before .before .before .before .before .before .before .before .before .before .before .if1 .left)) (c .before .before .before .before .before .before .before .before .before .before .before .before .before .before .before .before .bump .ensures) z (took-of (c .before .before .before .before .before .right .given .1) (c .before .before .before .before .before .before .before .before .before .comparison2 .ensures src)) (c .before .before .fold .ensures .0) (c .before .before .fold .ensures .1)) (link-ready blank pr.equality (c .before .before .before .before .before .before .before .before .before .before .before .before .before .before .before .before .before .before .before .before .before .loop .left) _ (c .before .before .before .before .before .before .before .before .before .before .before .before .before .before .before .before .before .before .before .before .before .loop .inv .ready) (link-past pr.equality (c .before .before .before .before .before .before .before .before .before .before .before .before .before .before .before .before .before .before .before .before .before .loop .inv .ready) (flagged-at (operators pr.equality) binary-node (c .before .before .before .before .before .before .before .before .before .before .before .before .before .before .before .before .before .before .before .peek .ensures) (c .before .before .before .before .before .before .before .before .before .before .before .before .before .before .before .before .before .before .equality-op .ensures) (c .before .before .before .before .before .before .before .before .before .before .before .before .before .before .before .before .before .if1 .left))) (c .before .before .before .before .before .before .before .before .before .before .before .before .before .before .before .before .bump .ensures) (took-of (c .before .before .before .before .before .right .given .1) (c .before .before .before .before .before .before .before .before .before .comparison2 .ensures blank)) (c .before .before .fold .ensures .0)) (omega (arith, z .0, z .1)) (c .before .before .fold .kept .0 ∙ c .before .before .before .before .before .before .before .before .before .comparison2 .kept .1 .0)
 
 expr-enter-requires : (t : ℕ) → expr-lts.Need-enter-requires (expr-calls t) (expr-at t) expr.Post
 expr-enter-requires t c κs = c .before .before .pre .1 .inside
@@ -570,7 +570,7 @@ logic-and-returns : (t : ℕ) → logic-and-lts.Need-returns (logic-and-calls t)
 logic-and-returns t c = λ src. failed-by (c .enum-told .given .1) (level-bad pr.logic-and src (c .before .before .before .before .before .before .before .before .args .tokens .now) (c .before .before .before .before .before .before .before .before .args .at .0) (c .before .before .before .before .before .before .before .before .args .allowance) (failed-of (c .enum-told .given .1) (c .before .before .before .before .equality .ensures src)))
 
 logic-and-loop-holds : (t : ℕ) → logic-and-lts.Need-loop-holds (logic-and-calls t) (logic-and-at t) logic-and.Post logic-and-Inv-loop logic-and-μ-loop
-logic-and-loop-holds t c = chain-in (took-ready [] (pr.level pr.equality) (c .before .before .before .before .before .before .before .before .before .args .allowance) (c .before .before .before .before .before .before .before .before .before .pre .1) (took-of (c .before .first .given .1) (c .before .before .before .before .before .equality .ensures [])))
+logic-and-loop-holds t c = chain-in (took-ready blank (pr.level pr.equality) (c .before .before .before .before .before .before .before .before .before .args .allowance) (c .before .before .before .before .before .before .before .before .before .pre .1) (took-of (c .before .first .given .1) (c .before .before .before .before .before .equality .ensures blank)))
 
 logic-and-peek-requires : (t : ℕ) → logic-and-lts.Need-peek-requires (logic-and-calls t) (logic-and-at t) logic-and.Post logic-and-Inv-loop logic-and-μ-loop
 logic-and-peek-requires t c κs = (c .before .loop .inv .ready .inside)
@@ -615,13 +615,13 @@ logic-and-enum-known-right : (t : ℕ) → logic-and-lts.Need-enum-known-right (
 logic-and-enum-known-right t c = search needs
 
 logic-and-fold-requires : (t : ℕ) → logic-and-lts.Need-fold-requires (logic-and-calls t) (logic-and-at t) logic-and.Post logic-and-Inv-loop logic-and-μ-loop
-logic-and-fold-requires t c κs = (ready-small (c .before .before .before .before .before .before .before .before .before .before .before .before .before .before .before .before .before .loop .inv .ready), ready-few (took-ready [] (pr.level pr.equality) _ (ready-past (c .before .before .before .before .before .before .before .before .before .before .before .before .before .before .before .before .before .loop .inv .ready) (link-past pr.logic-and (c .before .before .before .before .before .before .before .before .before .before .before .before .before .before .before .before .before .loop .inv .ready) (operates pr.logic-and (code AndAnd) 1 (sym (c .before .before .before .before .before .before .before .before .before .before .before .before .before .before .before .peek .ensures) ∙ c .before .before .before .before .before .before .before .before .before .before .before .before .before .before .if1 .left) tt refl)) (c .before .before .before .before .before .before .before .before .before .before .before .before .before .bump .ensures)) (took-of (c .before .before .right .given .1) (c .before .before .before .before .before .before .equality2 .ensures []))))
+logic-and-fold-requires t c κs = (ready-small (c .before .before .before .before .before .before .before .before .before .before .before .before .before .before .before .before .before .loop .inv .ready), ready-few (took-ready blank (pr.level pr.equality) _ (ready-past (c .before .before .before .before .before .before .before .before .before .before .before .before .before .before .before .before .before .loop .inv .ready) (link-past pr.logic-and (c .before .before .before .before .before .before .before .before .before .before .before .before .before .before .before .before .before .loop .inv .ready) (operates pr.logic-and (code AndAnd) 1 (sym (c .before .before .before .before .before .before .before .before .before .before .before .before .before .before .before .peek .ensures) ∙ c .before .before .before .before .before .before .before .before .before .before .before .before .before .before .if1 .left) tt refl)) (c .before .before .before .before .before .before .before .before .before .before .before .before .before .bump .ensures)) (took-of (c .before .before .right .given .1) (c .before .before .before .before .before .before .equality2 .ensures blank))))
 
 logic-and-loop-less : (t : ℕ) → logic-and-lts.Need-loop-less (logic-and-calls t) (logic-and-at t) logic-and.Post logic-and-Inv-loop logic-and-μ-loop
 logic-and-loop-less t c = let z = (left-of (c .before .before .before .before .before .before .before .before .before .before .before .before .before .less .given .1) (c .before .before .before .before .before .before .before .before .before .before .before .before .before .before .before .enter .ensures)) in omega (arith, z .0, z .1)
 
 logic-and-loop-again : (t : ℕ) → logic-and-lts.Need-loop-again (logic-and-calls t) (logic-and-at t) logic-and.Post logic-and-Inv-loop logic-and-μ-loop
-logic-and-loop-again t c = let z = (left-of (c .before .before .before .before .before .before .before .before .before .before .before .before .before .less .given .1) (c .before .before .before .before .before .before .before .before .before .before .before .before .before .before .before .enter .ensures)) in chain-on (c .before .before .before .before .before .before .before .before .before .before .before .before .before .before .before .before .before .before .before .before .loop .inv) (λ src o t n x. link-on pr.logic-and x (c .before .before .before .before .before .before .before .before .before .before .before .before .before .before .before .before .before .before .before .before .loop .inv .ready .inside) (operates pr.logic-and (code AndAnd) 1 (sym (c .before .before .before .before .before .before .before .before .before .before .before .before .before .before .before .before .before .before .peek .ensures) ∙ c .before .before .before .before .before .before .before .before .before .before .before .before .before .before .before .before .before .if1 .left) tt refl) (c .before .before .before .before .before .before .before .before .before .before .before .before .before .before .before .before .bump .ensures) z (took-of (c .before .before .before .before .before .right .given .1) (c .before .before .before .before .before .before .before .before .before .equality2 .ensures src)) (c .before .before .fold .ensures .0) (c .before .before .fold .ensures .1)) (link-ready [] pr.logic-and (c .before .before .before .before .before .before .before .before .before .before .before .before .before .before .before .before .before .before .before .before .loop .left) _ (c .before .before .before .before .before .before .before .before .before .before .before .before .before .before .before .before .before .before .before .before .loop .inv .ready) (link-past pr.logic-and (c .before .before .before .before .before .before .before .before .before .before .before .before .before .before .before .before .before .before .before .before .loop .inv .ready) (operates pr.logic-and (code AndAnd) 1 (sym (c .before .before .before .before .before .before .before .before .before .before .before .before .before .before .before .before .before .before .peek .ensures) ∙ c .before .before .before .before .before .before .before .before .before .before .before .before .before .before .before .before .before .if1 .left) tt refl)) (c .before .before .before .before .before .before .before .before .before .before .before .before .before .before .before .before .bump .ensures) (took-of (c .before .before .before .before .before .right .given .1) (c .before .before .before .before .before .before .before .before .before .equality2 .ensures [])) (c .before .before .fold .ensures .0)) (omega (arith, z .0, z .1)) (c .before .before .fold .kept .0 ∙ c .before .before .before .before .before .before .before .before .before .equality2 .kept .1 .0)
+logic-and-loop-again t c = let z = (left-of (c .before .before .before .before .before .before .before .before .before .before .before .before .before .less .given .1) (c .before .before .before .before .before .before .before .before .before .before .before .before .before .before .before .enter .ensures)) in chain-on (c .before .before .before .before .before .before .before .before .before .before .before .before .before .before .before .before .before .before .before .before .loop .inv) (λ src o t n x. link-on pr.logic-and x (c .before .before .before .before .before .before .before .before .before .before .before .before .before .before .before .before .before .before .before .before .loop .inv .ready .inside) (operates pr.logic-and (code AndAnd) 1 (sym (c .before .before .before .before .before .before .before .before .before .before .before .before .before .before .before .before .before .before .peek .ensures) ∙ c .before .before .before .before .before .before .before .before .before .before .before .before .before .before .before .before .before .if1 .left) tt refl) (c .before .before .before .before .before .before .before .before .before .before .before .before .before .before .before .before .bump .ensures) z (took-of (c .before .before .before .before .before .right .given .1) (c .before .before .before .before .before .before .before .before .before .equality2 .ensures src)) (c .before .before .fold .ensures .0) (c .before .before .fold .ensures .1)) (link-ready blank pr.logic-and (c .before .before .before .before .before .before .before .before .before .before .before .before .before .before .before .before .before .before .before .before .loop .left) _ (c .before .before .before .before .before .before .before .before .before .before .before .before .before .before .before .before .before .before .before .before .loop .inv .ready) (link-past pr.logic-and (c .before .before .before .before .before .before .before .before .before .before .before .before .before .before .before .before .before .before .before .before .loop .inv .ready) (operates pr.logic-and (code AndAnd) 1 (sym (c .before .before .before .before .before .before .before .before .before .before .before .before .before .before .before .before .before .before .peek .ensures) ∙ c .before .before .before .before .before .before .before .before .before .before .before .before .before .before .before .before .before .if1 .left) tt refl)) (c .before .before .before .before .before .before .before .before .before .before .before .before .before .before .before .before .bump .ensures) (took-of (c .before .before .before .before .before .right .given .1) (c .before .before .before .before .before .before .before .before .before .equality2 .ensures blank)) (c .before .before .fold .ensures .0)) (omega (arith, z .0, z .1)) (c .before .before .fold .kept .0 ∙ c .before .before .before .before .before .before .before .before .before .equality2 .kept .1 .0)
 
 abbrev logic-or-Inv-loop : logic-or-lts.InvT-loop
 logic-or-Inv-loop tokens tree₀ allowance left₀ depth₀ tree left depth = Chain (pr.links pr.logic-or) tokens left₀ depth₀ tree₀ left depth tree
@@ -645,7 +645,7 @@ logic-or-returns : (t : ℕ) → logic-or-lts.Need-returns (logic-or-calls t) (l
 logic-or-returns t c = λ src. failed-by (c .enum-told .given .1) (level-bad pr.logic-or src (c .before .before .before .before .before .before .before .before .args .tokens .now) (c .before .before .before .before .before .before .before .before .args .at .0) (c .before .before .before .before .before .before .before .before .args .allowance) (failed-of (c .enum-told .given .1) (c .before .before .before .before .logic-and .ensures src)))
 
 logic-or-loop-holds : (t : ℕ) → logic-or-lts.Need-loop-holds (logic-or-calls t) (logic-or-at t) logic-or.Post logic-or-Inv-loop logic-or-μ-loop
-logic-or-loop-holds t c = chain-in (took-ready [] (pr.level pr.logic-and) (c .before .before .before .before .before .before .before .before .before .args .allowance) (c .before .before .before .before .before .before .before .before .before .pre .1) (took-of (c .before .first .given .1) (c .before .before .before .before .before .logic-and .ensures [])))
+logic-or-loop-holds t c = chain-in (took-ready blank (pr.level pr.logic-and) (c .before .before .before .before .before .before .before .before .before .args .allowance) (c .before .before .before .before .before .before .before .before .before .pre .1) (took-of (c .before .first .given .1) (c .before .before .before .before .before .logic-and .ensures blank)))
 
 logic-or-peek-requires : (t : ℕ) → logic-or-lts.Need-peek-requires (logic-or-calls t) (logic-or-at t) logic-or.Post logic-or-Inv-loop logic-or-μ-loop
 logic-or-peek-requires t c κs = (c .before .loop .inv .ready .inside)
@@ -690,13 +690,13 @@ logic-or-enum-known-right : (t : ℕ) → logic-or-lts.Need-enum-known-right (lo
 logic-or-enum-known-right t c = search needs
 
 logic-or-fold-requires : (t : ℕ) → logic-or-lts.Need-fold-requires (logic-or-calls t) (logic-or-at t) logic-or.Post logic-or-Inv-loop logic-or-μ-loop
-logic-or-fold-requires t c κs = (ready-small (c .before .before .before .before .before .before .before .before .before .before .before .before .before .before .before .before .before .loop .inv .ready), ready-few (took-ready [] (pr.level pr.logic-and) _ (ready-past (c .before .before .before .before .before .before .before .before .before .before .before .before .before .before .before .before .before .loop .inv .ready) (link-past pr.logic-or (c .before .before .before .before .before .before .before .before .before .before .before .before .before .before .before .before .before .loop .inv .ready) (operates pr.logic-or (code OrOr) 0 (sym (c .before .before .before .before .before .before .before .before .before .before .before .before .before .before .before .peek .ensures) ∙ c .before .before .before .before .before .before .before .before .before .before .before .before .before .before .if1 .left) tt refl)) (c .before .before .before .before .before .before .before .before .before .before .before .before .before .bump .ensures)) (took-of (c .before .before .right .given .1) (c .before .before .before .before .before .before .logic-and2 .ensures []))))
+logic-or-fold-requires t c κs = (ready-small (c .before .before .before .before .before .before .before .before .before .before .before .before .before .before .before .before .before .loop .inv .ready), ready-few (took-ready blank (pr.level pr.logic-and) _ (ready-past (c .before .before .before .before .before .before .before .before .before .before .before .before .before .before .before .before .before .loop .inv .ready) (link-past pr.logic-or (c .before .before .before .before .before .before .before .before .before .before .before .before .before .before .before .before .before .loop .inv .ready) (operates pr.logic-or (code OrOr) 0 (sym (c .before .before .before .before .before .before .before .before .before .before .before .before .before .before .before .peek .ensures) ∙ c .before .before .before .before .before .before .before .before .before .before .before .before .before .before .if1 .left) tt refl)) (c .before .before .before .before .before .before .before .before .before .before .before .before .before .bump .ensures)) (took-of (c .before .before .right .given .1) (c .before .before .before .before .before .before .logic-and2 .ensures blank))))
 
 logic-or-loop-less : (t : ℕ) → logic-or-lts.Need-loop-less (logic-or-calls t) (logic-or-at t) logic-or.Post logic-or-Inv-loop logic-or-μ-loop
 logic-or-loop-less t c = let z = (left-of (c .before .before .before .before .before .before .before .before .before .before .before .before .before .less .given .1) (c .before .before .before .before .before .before .before .before .before .before .before .before .before .before .before .enter .ensures)) in omega (arith, z .0, z .1)
 
 logic-or-loop-again : (t : ℕ) → logic-or-lts.Need-loop-again (logic-or-calls t) (logic-or-at t) logic-or.Post logic-or-Inv-loop logic-or-μ-loop
-logic-or-loop-again t c = let z = (left-of (c .before .before .before .before .before .before .before .before .before .before .before .before .before .less .given .1) (c .before .before .before .before .before .before .before .before .before .before .before .before .before .before .before .enter .ensures)) in chain-on (c .before .before .before .before .before .before .before .before .before .before .before .before .before .before .before .before .before .before .before .before .loop .inv) (λ src o t n x. link-on pr.logic-or x (c .before .before .before .before .before .before .before .before .before .before .before .before .before .before .before .before .before .before .before .before .loop .inv .ready .inside) (operates pr.logic-or (code OrOr) 0 (sym (c .before .before .before .before .before .before .before .before .before .before .before .before .before .before .before .before .before .before .peek .ensures) ∙ c .before .before .before .before .before .before .before .before .before .before .before .before .before .before .before .before .before .if1 .left) tt refl) (c .before .before .before .before .before .before .before .before .before .before .before .before .before .before .before .before .bump .ensures) z (took-of (c .before .before .before .before .before .right .given .1) (c .before .before .before .before .before .before .before .before .before .logic-and2 .ensures src)) (c .before .before .fold .ensures .0) (c .before .before .fold .ensures .1)) (link-ready [] pr.logic-or (c .before .before .before .before .before .before .before .before .before .before .before .before .before .before .before .before .before .before .before .before .loop .left) _ (c .before .before .before .before .before .before .before .before .before .before .before .before .before .before .before .before .before .before .before .before .loop .inv .ready) (link-past pr.logic-or (c .before .before .before .before .before .before .before .before .before .before .before .before .before .before .before .before .before .before .before .before .loop .inv .ready) (operates pr.logic-or (code OrOr) 0 (sym (c .before .before .before .before .before .before .before .before .before .before .before .before .before .before .before .before .before .before .peek .ensures) ∙ c .before .before .before .before .before .before .before .before .before .before .before .before .before .before .before .before .before .if1 .left) tt refl)) (c .before .before .before .before .before .before .before .before .before .before .before .before .before .before .before .before .bump .ensures) (took-of (c .before .before .before .before .before .right .given .1) (c .before .before .before .before .before .before .before .before .before .logic-and2 .ensures [])) (c .before .before .fold .ensures .0)) (omega (arith, z .0, z .1)) (c .before .before .fold .kept .0 ∙ c .before .before .before .before .before .before .before .before .before .logic-and2 .kept .1 .0)
+logic-or-loop-again t c = let z = (left-of (c .before .before .before .before .before .before .before .before .before .before .before .before .before .less .given .1) (c .before .before .before .before .before .before .before .before .before .before .before .before .before .before .before .enter .ensures)) in chain-on (c .before .before .before .before .before .before .before .before .before .before .before .before .before .before .before .before .before .before .before .before .loop .inv) (λ src o t n x. link-on pr.logic-or x (c .before .before .before .before .before .before .before .before .before .before .before .before .before .before .before .before .before .before .before .before .loop .inv .ready .inside) (operates pr.logic-or (code OrOr) 0 (sym (c .before .before .before .before .before .before .before .before .before .before .before .before .before .before .before .before .before .before .peek .ensures) ∙ c .before .before .before .before .before .before .before .before .before .before .before .before .before .before .before .before .before .if1 .left) tt refl) (c .before .before .before .before .before .before .before .before .before .before .before .before .before .before .before .before .bump .ensures) z (took-of (c .before .before .before .before .before .right .given .1) (c .before .before .before .before .before .before .before .before .before .logic-and2 .ensures src)) (c .before .before .fold .ensures .0) (c .before .before .fold .ensures .1)) (link-ready blank pr.logic-or (c .before .before .before .before .before .before .before .before .before .before .before .before .before .before .before .before .before .before .before .before .loop .left) _ (c .before .before .before .before .before .before .before .before .before .before .before .before .before .before .before .before .before .before .before .before .loop .inv .ready) (link-past pr.logic-or (c .before .before .before .before .before .before .before .before .before .before .before .before .before .before .before .before .before .before .before .before .loop .inv .ready) (operates pr.logic-or (code OrOr) 0 (sym (c .before .before .before .before .before .before .before .before .before .before .before .before .before .before .before .before .before .before .peek .ensures) ∙ c .before .before .before .before .before .before .before .before .before .before .before .before .before .before .before .before .before .if1 .left) tt refl)) (c .before .before .before .before .before .before .before .before .before .before .before .before .before .before .before .before .bump .ensures) (took-of (c .before .before .before .before .before .right .given .1) (c .before .before .before .before .before .before .before .before .before .logic-and2 .ensures blank)) (c .before .before .fold .ensures .0)) (omega (arith, z .0, z .1)) (c .before .before .fold .kept .0 ∙ c .before .before .before .before .before .before .before .before .before .logic-and2 .kept .1 .0)
 
 abbrev multiplicative-Inv-loop : multiplicative-lts.InvT-loop
 multiplicative-Inv-loop tokens tree₀ allowance left₀ depth₀ tree left depth = Chain (pr.links pr.multiplicative) tokens left₀ depth₀ tree₀ left depth tree
@@ -720,7 +720,7 @@ multiplicative-returns : (t : ℕ) → multiplicative-lts.Need-returns (multipli
 multiplicative-returns t c = λ src. failed-by (c .enum-told .given .1) (level-bad pr.multiplicative src (c .before .before .before .before .before .before .before .before .args .tokens .now) (c .before .before .before .before .before .before .before .before .args .at .0) (c .before .before .before .before .before .before .before .before .args .allowance) (failed-of (c .enum-told .given .1) (c .before .before .before .before .unary .ensures src)))
 
 multiplicative-loop-holds : (t : ℕ) → multiplicative-lts.Need-loop-holds (multiplicative-calls t) (multiplicative-at t) multiplicative.Post multiplicative-Inv-loop multiplicative-μ-loop
-multiplicative-loop-holds t c = chain-in (took-ready [] pr.unary (c .before .before .before .before .before .before .before .before .before .args .allowance) (c .before .before .before .before .before .before .before .before .before .pre .1) (took-of (c .before .first .given .1) (c .before .before .before .before .before .unary .ensures [])))
+multiplicative-loop-holds t c = chain-in (took-ready blank pr.unary (c .before .before .before .before .before .before .before .before .before .args .allowance) (c .before .before .before .before .before .before .before .before .before .pre .1) (took-of (c .before .first .given .1) (c .before .before .before .before .before .unary .ensures blank)))
 
 multiplicative-peek-requires : (t : ℕ) → multiplicative-lts.Need-peek-requires (multiplicative-calls t) (multiplicative-at t) multiplicative.Post multiplicative-Inv-loop multiplicative-μ-loop
 multiplicative-peek-requires t c κs = (c .before .loop .inv .ready .inside)
@@ -769,13 +769,13 @@ multiplicative-enum-known-right : (t : ℕ) → multiplicative-lts.Need-enum-kno
 multiplicative-enum-known-right t c = search needs
 
 multiplicative-fold-requires : (t : ℕ) → multiplicative-lts.Need-fold-requires (multiplicative-calls t) (multiplicative-at t) multiplicative.Post multiplicative-Inv-loop multiplicative-μ-loop
-multiplicative-fold-requires t c κs = (ready-small (c .before .before .before .before .before .before .before .before .before .before .before .before .before .before .before .before .before .before .loop .inv .ready), ready-few (took-ready [] pr.unary _ (ready-past (c .before .before .before .before .before .before .before .before .before .before .before .before .before .before .before .before .before .before .loop .inv .ready) (link-past pr.multiplicative (c .before .before .before .before .before .before .before .before .before .before .before .before .before .before .before .before .before .before .loop .inv .ready) (flagged-at (operators pr.multiplicative) binary-node (c .before .before .before .before .before .before .before .before .before .before .before .before .before .before .before .before .peek .ensures) (c .before .before .before .before .before .before .before .before .before .before .before .before .before .before .before .multiplicative-op .ensures) (c .before .before .before .before .before .before .before .before .before .before .before .before .before .before .if1 .left))) (c .before .before .before .before .before .before .before .before .before .before .before .before .before .bump .ensures)) (took-of (c .before .before .right .given .1) (c .before .before .before .before .before .before .unary2 .ensures []))))
+multiplicative-fold-requires t c κs = (ready-small (c .before .before .before .before .before .before .before .before .before .before .before .before .before .before .before .before .before .before .loop .inv .ready), ready-few (took-ready blank pr.unary _ (ready-past (c .before .before .before .before .before .before .before .before .before .before .before .before .before .before .before .before .before .before .loop .inv .ready) (link-past pr.multiplicative (c .before .before .before .before .before .before .before .before .before .before .before .before .before .before .before .before .before .before .loop .inv .ready) (flagged-at (operators pr.multiplicative) binary-node (c .before .before .before .before .before .before .before .before .before .before .before .before .before .before .before .before .peek .ensures) (c .before .before .before .before .before .before .before .before .before .before .before .before .before .before .before .multiplicative-op .ensures) (c .before .before .before .before .before .before .before .before .before .before .before .before .before .before .if1 .left))) (c .before .before .before .before .before .before .before .before .before .before .before .before .before .bump .ensures)) (took-of (c .before .before .right .given .1) (c .before .before .before .before .before .before .unary2 .ensures blank))))
 
 multiplicative-loop-less : (t : ℕ) → multiplicative-lts.Need-loop-less (multiplicative-calls t) (multiplicative-at t) multiplicative.Post multiplicative-Inv-loop multiplicative-μ-loop
 multiplicative-loop-less t c = let z = (left-of (c .before .before .before .before .before .before .before .before .before .before .before .before .before .less .given .1) (c .before .before .before .before .before .before .before .before .before .before .before .before .before .before .before .enter .ensures)) in omega (arith, z .0, z .1)
 
 multiplicative-loop-again : (t : ℕ) → multiplicative-lts.Need-loop-again (multiplicative-calls t) (multiplicative-at t) multiplicative.Post multiplicative-Inv-loop multiplicative-μ-loop
-multiplicative-loop-again t c = let z = (left-of (c .before .before .before .before .before .before .before .before .before .before .before .before .before .less .given .1) (c .before .before .before .before .before .before .before .before .before .before .before .before .before .before .before .enter .ensures)) in chain-on (c .before .before .before .before .before .before .before .before .before .before .before .before .before .before .before .before .before .before .before .before .before .loop .inv) (λ src o t n x. link-on pr.multiplicative x (c .before .before .before .before .before .before .before .before .before .before .before .before .before .before .before .before .before .before .before .before .before .loop .inv .ready .inside) (flagged-at (operators pr.multiplicative) binary-node (c .before .before .before .before .before .before .before .before .before .before .before .before .before .before .before .before .before .before .before .peek .ensures) (c .before .before .before .before .before .before .before .before .before .before .before .before .before .before .before .before .before .before .multiplicative-op .ensures) (c .before .before .before .before .before .before .before .before .before .before .before .before .before .before .before .before .before .if1 .left)) (c .before .before .before .before .before .before .before .before .before .before .before .before .before .before .before .before .bump .ensures) z (took-of (c .before .before .before .before .before .right .given .1) (c .before .before .before .before .before .before .before .before .before .unary2 .ensures src)) (c .before .before .fold .ensures .0) (c .before .before .fold .ensures .1)) (link-ready [] pr.multiplicative (c .before .before .before .before .before .before .before .before .before .before .before .before .before .before .before .before .before .before .before .before .before .loop .left) _ (c .before .before .before .before .before .before .before .before .before .before .before .before .before .before .before .before .before .before .before .before .before .loop .inv .ready) (link-past pr.multiplicative (c .before .before .before .before .before .before .before .before .before .before .before .before .before .before .before .before .before .before .before .before .before .loop .inv .ready) (flagged-at (operators pr.multiplicative) binary-node (c .before .before .before .before .before .before .before .before .before .before .before .before .before .before .before .before .before .before .before .peek .ensures) (c .before .before .before .before .before .before .before .before .before .before .before .before .before .before .before .before .before .before .multiplicative-op .ensures) (c .before .before .before .before .before .before .before .before .before .before .before .before .before .before .before .before .before .if1 .left))) (c .before .before .before .before .before .before .before .before .before .before .before .before .before .before .before .before .bump .ensures) (took-of (c .before .before .before .before .before .right .given .1) (c .before .before .before .before .before .before .before .before .before .unary2 .ensures [])) (c .before .before .fold .ensures .0)) (omega (arith, z .0, z .1)) (c .before .before .fold .kept .0 ∙ c .before .before .before .before .before .before .before .before .before .unary2 .kept .1 .0)
+multiplicative-loop-again t c = let z = (left-of (c .before .before .before .before .before .before .before .before .before .before .before .before .before .less .given .1) (c .before .before .before .before .before .before .before .before .before .before .before .before .before .before .before .enter .ensures)) in chain-on (c .before .before .before .before .before .before .before .before .before .before .before .before .before .before .before .before .before .before .before .before .before .loop .inv) (λ src o t n x. link-on pr.multiplicative x (c .before .before .before .before .before .before .before .before .before .before .before .before .before .before .before .before .before .before .before .before .before .loop .inv .ready .inside) (flagged-at (operators pr.multiplicative) binary-node (c .before .before .before .before .before .before .before .before .before .before .before .before .before .before .before .before .before .before .before .peek .ensures) (c .before .before .before .before .before .before .before .before .before .before .before .before .before .before .before .before .before .before .multiplicative-op .ensures) (c .before .before .before .before .before .before .before .before .before .before .before .before .before .before .before .before .before .if1 .left)) (c .before .before .before .before .before .before .before .before .before .before .before .before .before .before .before .before .bump .ensures) z (took-of (c .before .before .before .before .before .right .given .1) (c .before .before .before .before .before .before .before .before .before .unary2 .ensures src)) (c .before .before .fold .ensures .0) (c .before .before .fold .ensures .1)) (link-ready blank pr.multiplicative (c .before .before .before .before .before .before .before .before .before .before .before .before .before .before .before .before .before .before .before .before .before .loop .left) _ (c .before .before .before .before .before .before .before .before .before .before .before .before .before .before .before .before .before .before .before .before .before .loop .inv .ready) (link-past pr.multiplicative (c .before .before .before .before .before .before .before .before .before .before .before .before .before .before .before .before .before .before .before .before .before .loop .inv .ready) (flagged-at (operators pr.multiplicative) binary-node (c .before .before .before .before .before .before .before .before .before .before .before .before .before .before .before .before .before .before .before .peek .ensures) (c .before .before .before .before .before .before .before .before .before .before .before .before .before .before .before .before .before .before .multiplicative-op .ensures) (c .before .before .before .before .before .before .before .before .before .before .before .before .before .before .before .before .before .if1 .left))) (c .before .before .before .before .before .before .before .before .before .before .before .before .before .before .before .before .bump .ensures) (took-of (c .before .before .before .before .before .right .given .1) (c .before .before .before .before .before .before .before .before .before .unary2 .ensures blank)) (c .before .before .fold .ensures .0)) (omega (arith, z .0, z .1)) (c .before .before .fold .kept .0 ∙ c .before .before .before .before .before .before .before .before .before .unary2 .kept .1 .0)
 
 abbrev postfix-Inv-loop : postfix-lts.InvT-loop
 postfix-Inv-loop tokens tree₀ allowance left₀ depth₀ tree left depth = Chain pr.suffixes tokens left₀ depth₀ tree₀ left depth tree
@@ -799,7 +799,7 @@ postfix-returns : (t : ℕ) → postfix-lts.Need-returns (postfix-calls t) (post
 postfix-returns t c = λ src. failed-by (c .enum-told .given .1) (postfix-bad src (c .before .before .before .before .before .before .before .before .args .tokens .now) (c .before .before .before .before .before .before .before .before .args .at .0) (c .before .before .before .before .before .before .before .before .args .allowance) (c .before .before .before .before .before .before .before .before .pre .1 .inside) (failed-of (c .enum-told .given .1) (c .before .before .before .before .primary .ensures src)))
 
 postfix-loop-holds : (t : ℕ) → postfix-lts.Need-loop-holds (postfix-calls t) (postfix-at t) postfix.Post postfix-Inv-loop postfix-μ-loop
-postfix-loop-holds t c = chain-in (took-ready [] pr.primary (c .before .before .before .before .before .before .before .before .before .args .allowance) (c .before .before .before .before .before .before .before .before .before .pre .1) (took-of (c .before .first .given .1) (c .before .before .before .before .before .primary .ensures [])))
+postfix-loop-holds t c = chain-in (took-ready blank pr.primary (c .before .before .before .before .before .before .before .before .before .args .allowance) (c .before .before .before .before .before .before .before .before .before .pre .1) (took-of (c .before .first .given .1) (c .before .before .before .before .before .primary .ensures blank)))
 
 postfix-peek-requires : (t : ℕ) → postfix-lts.Need-peek-requires (postfix-calls t) (postfix-at t) postfix.Post postfix-Inv-loop postfix-μ-loop
 postfix-peek-requires t c κs = (c .before .loop .inv .ready .inside)
@@ -874,7 +874,7 @@ postfix-enum-known-args : (t : ℕ) → postfix-lts.Need-enum-known-args (postfi
 postfix-enum-known-args t c = search needs
 
 postfix-call-requires : (t : ℕ) → postfix-lts.Need-call-requires (postfix-calls t) (postfix-at t) postfix.Post postfix-Inv-loop postfix-μ-loop
-postfix-call-requires t c κs = let y = all-onward [] pr.args _ ((start-past (c .before .before .before .before .before .before .before .before .before .before .before .before .before .before .before .before .before .loop .inv .ready) (is-start (code LParen) (sym (c .before .before .before .before .before .before .before .before .before .before .before .before .before .before .before .peek .ensures) ∙ c .before .before .before .before .before .before .before .before .before .before .before .before .before .before .match2 .keys2) tt) (c .before .before .before .before .before .before .before .bump .ensures)) .inside) (all-of (c .before .before .args2 .given .1) (c .before .before .before .before .before .before .call-args .ensures [])) in let x = all-few (all-of (c .before .before .args2 .given .1) (c .before .before .before .before .before .before .call-args .ensures [])) in ((all-ready [] pr.args _ (start-past (c .before .before .before .before .before .before .before .before .before .before .before .before .before .before .before .before .before .loop .inv .ready) (is-start (code LParen) (sym (c .before .before .before .before .before .before .before .before .before .before .before .before .before .before .before .peek .ensures) ∙ c .before .before .before .before .before .before .before .before .before .before .before .before .before .before .match2 .keys2) tt) (c .before .before .before .before .before .before .before .bump .ensures)) (all-of (c .before .before .args2 .given .1) (c .before .before .before .before .before .before .call-args .ensures []))), omega (arith, y .0, c .before .before .before .before .before .before .before .bump .ensures), omega arith)
+postfix-call-requires t c κs = let y = all-onward blank pr.args _ ((start-past (c .before .before .before .before .before .before .before .before .before .before .before .before .before .before .before .before .before .loop .inv .ready) (is-start (code LParen) (sym (c .before .before .before .before .before .before .before .before .before .before .before .before .before .before .before .peek .ensures) ∙ c .before .before .before .before .before .before .before .before .before .before .before .before .before .before .match2 .keys2) tt) (c .before .before .before .before .before .before .before .bump .ensures)) .inside) (all-of (c .before .before .args2 .given .1) (c .before .before .before .before .before .before .call-args .ensures blank)) in let x = all-few (all-of (c .before .before .args2 .given .1) (c .before .before .before .before .before .before .call-args .ensures blank)) in ((all-ready blank pr.args _ (start-past (c .before .before .before .before .before .before .before .before .before .before .before .before .before .before .before .before .before .loop .inv .ready) (is-start (code LParen) (sym (c .before .before .before .before .before .before .before .before .before .before .before .before .before .before .before .peek .ensures) ∙ c .before .before .before .before .before .before .before .before .before .before .before .before .before .before .match2 .keys2) tt) (c .before .before .before .before .before .before .before .bump .ensures)) (all-of (c .before .before .args2 .given .1) (c .before .before .before .before .before .before .call-args .ensures blank))), omega (arith, y .0, c .before .before .before .before .before .before .before .bump .ensures), omega arith)
 
 postfix-enum-known-e-5 : (t : ℕ) → postfix-lts.Need-enum-known-e-5 (postfix-calls t) (postfix-at t) postfix.Post postfix-Inv-loop postfix-μ-loop
 postfix-enum-known-e-5 t c = search needs
@@ -883,7 +883,7 @@ postfix-same-length-6 : (t : ℕ) → postfix-lts.Need-same-length-6 (postfix-ca
 postfix-same-length-6 t c = c .before .before .before .before .before .call .kept .1 .0 ∙ c .before .before .before .before .before .before .before .before .before .before .before .before .call-args .kept .1 .0 ∙ c .before .before .before .before .before .before .before .before .before .before .before .before .before .before .before .before .before .before .before .before .before .before .before .loop .inv .long ∙ c .before .before .before .before .before .before .before .before .before .before .before .before .before .before .before .before .before .before .before .before .before .before .before .before .before .before .before .before .before .primary .kept .1 .0
 
 postfix-returns-6 : (t : ℕ) → postfix-lts.Need-returns-6 (postfix-calls t) (postfix-at t) postfix.Post postfix-Inv-loop postfix-μ-loop
-postfix-returns-6 t c = λ src. failed (call-bad (c .before .before .before .before .before .before .before .before .before .before .before .before .before .before .before .before .before .before .before .before .before .before .before .loop .inv .carries src _ _ _ (postfix-first src (c .before .before .before .before .before .before .before .before .before .before .before .before .before .before .before .before .before .before .before .before .before .before .before .before .before .before .before .before .before .before .before .before .before .args .tokens .now) (c .before .before .before .before .before .before .before .before .before .before .before .before .before .before .before .before .before .before .before .before .before .before .before .before .before .before .before .before .before .before .before .before .before .args .at .0) (c .before .before .before .before .before .before .before .before .before .before .before .before .before .before .before .before .before .before .before .before .before .before .before .before .before .before .before .before .before .before .before .before .before .args .allowance) (c .before .before .before .before .before .before .before .before .before .before .before .before .before .before .before .before .before .before .before .before .before .before .before .before .before .before .before .before .before .before .before .before .before .pre .1 .inside) (took-of (c .before .before .before .before .before .before .before .before .before .before .before .before .before .before .before .before .before .before .before .before .before .before .before .before .before .first .given .1) (c .before .before .before .before .before .before .before .before .before .before .before .before .before .before .before .before .before .before .before .before .before .before .before .before .before .before .before .before .before .primary .ensures src)))) (c .before .before .before .before .before .before .before .before .before .before .before .before .before .before .before .before .before .before .before .before .before .before .before .loop .inv .ready .inside) (sym (c .before .before .before .before .before .before .before .before .before .before .before .before .before .before .before .before .before .before .before .before .before .peek .ensures) ∙ c .before .before .before .before .before .before .before .before .before .before .before .before .before .before .before .before .before .before .before .before .match2 .keys2) (left-of (c .before .before .before .before .before .before .before .before .before .before .before .before .before .before .before .before .before .less2 .given .1) (c .before .before .before .before .before .before .before .before .before .before .before .before .before .before .before .before .before .before .before .enter2 .ensures)) (c .before .before .before .before .before .before .before .before .before .before .before .before .before .bump .ensures) (all-of (c .before .before .before .before .before .before .before .before .args2 .given .1) (c .before .before .before .before .before .before .before .before .before .before .before .before .call-args .ensures src)) (all-ready [] pr.args _ (start-past (c .before .before .before .before .before .before .before .before .before .before .before .before .before .before .before .before .before .before .before .before .before .before .before .loop .inv .ready) (is-start (code LParen) (sym (c .before .before .before .before .before .before .before .before .before .before .before .before .before .before .before .before .before .before .before .before .before .peek .ensures) ∙ c .before .before .before .before .before .before .before .before .before .before .before .before .before .before .before .before .before .before .before .before .match2 .keys2) tt) (c .before .before .before .before .before .before .before .before .before .before .before .before .before .bump .ensures)) (all-of (c .before .before .before .before .before .before .before .before .args2 .given .1) (c .before .before .before .before .before .before .before .before .before .before .before .before .call-args .ensures []))) (c .before .e5 .given .1) (c .before .before .before .before .before .call .ensures))
+postfix-returns-6 t c = λ src. failed (call-bad (c .before .before .before .before .before .before .before .before .before .before .before .before .before .before .before .before .before .before .before .before .before .before .before .loop .inv .carries src _ _ _ (postfix-first src (c .before .before .before .before .before .before .before .before .before .before .before .before .before .before .before .before .before .before .before .before .before .before .before .before .before .before .before .before .before .before .before .before .before .args .tokens .now) (c .before .before .before .before .before .before .before .before .before .before .before .before .before .before .before .before .before .before .before .before .before .before .before .before .before .before .before .before .before .before .before .before .before .args .at .0) (c .before .before .before .before .before .before .before .before .before .before .before .before .before .before .before .before .before .before .before .before .before .before .before .before .before .before .before .before .before .before .before .before .before .args .allowance) (c .before .before .before .before .before .before .before .before .before .before .before .before .before .before .before .before .before .before .before .before .before .before .before .before .before .before .before .before .before .before .before .before .before .pre .1 .inside) (took-of (c .before .before .before .before .before .before .before .before .before .before .before .before .before .before .before .before .before .before .before .before .before .before .before .before .before .first .given .1) (c .before .before .before .before .before .before .before .before .before .before .before .before .before .before .before .before .before .before .before .before .before .before .before .before .before .before .before .before .before .primary .ensures src)))) (c .before .before .before .before .before .before .before .before .before .before .before .before .before .before .before .before .before .before .before .before .before .before .before .loop .inv .ready .inside) (sym (c .before .before .before .before .before .before .before .before .before .before .before .before .before .before .before .before .before .before .before .before .before .peek .ensures) ∙ c .before .before .before .before .before .before .before .before .before .before .before .before .before .before .before .before .before .before .before .before .match2 .keys2) (left-of (c .before .before .before .before .before .before .before .before .before .before .before .before .before .before .before .before .before .less2 .given .1) (c .before .before .before .before .before .before .before .before .before .before .before .before .before .before .before .before .before .before .before .enter2 .ensures)) (c .before .before .before .before .before .before .before .before .before .before .before .before .before .bump .ensures) (all-of (c .before .before .before .before .before .before .before .before .args2 .given .1) (c .before .before .before .before .before .before .before .before .before .before .before .before .call-args .ensures src)) (all-ready blank pr.args _ (start-past (c .before .before .before .before .before .before .before .before .before .before .before .before .before .before .before .before .before .before .before .before .before .before .before .loop .inv .ready) (is-start (code LParen) (sym (c .before .before .before .before .before .before .before .before .before .before .before .before .before .before .before .before .before .before .before .before .before .peek .ensures) ∙ c .before .before .before .before .before .before .before .before .before .before .before .before .before .before .before .before .before .before .before .before .match2 .keys2) tt) (c .before .before .before .before .before .before .before .before .before .before .before .before .before .bump .ensures)) (all-of (c .before .before .before .before .before .before .before .before .args2 .given .1) (c .before .before .before .before .before .before .before .before .before .before .before .before .call-args .ensures blank))) (c .before .e5 .given .1) (c .before .before .before .before .before .call .ensures))
 
 postfix-enum-known-node-2 : (t : ℕ) → postfix-lts.Need-enum-known-node-2 (postfix-calls t) (postfix-at t) postfix.Post postfix-Inv-loop postfix-μ-loop
 postfix-enum-known-node-2 t c = search needs
@@ -892,7 +892,7 @@ postfix-loop-less-2 : (t : ℕ) → postfix-lts.Need-loop-less-2 (postfix-calls 
 postfix-loop-less-2 t c = let z = (left-of (c .before .before .before .before .before .before .before .before .before .before .before .before .before .before .before .before .before .less2 .given .1) (c .before .before .before .before .before .before .before .before .before .before .before .before .before .before .before .before .before .before .before .enter2 .ensures)) in omega (arith, z .0, z .1)
 
 postfix-loop-again-2 : (t : ℕ) → postfix-lts.Need-loop-again-2 (postfix-calls t) (postfix-at t) postfix.Post postfix-Inv-loop postfix-μ-loop
-postfix-loop-again-2 t c = let z = (left-of (c .before .before .before .before .before .before .before .before .before .before .before .before .before .before .before .before .before .less2 .given .1) (c .before .before .before .before .before .before .before .before .before .before .before .before .before .before .before .before .before .before .before .enter2 .ensures)) in chain-on (c .before .before .before .before .before .before .before .before .before .before .before .before .before .before .before .before .before .before .before .before .before .before .before .loop .inv) (λ src o t n x. call-on x (c .before .before .before .before .before .before .before .before .before .before .before .before .before .before .before .before .before .before .before .before .before .before .before .loop .inv .ready .inside) (sym (c .before .before .before .before .before .before .before .before .before .before .before .before .before .before .before .before .before .before .before .before .before .peek .ensures) ∙ c .before .before .before .before .before .before .before .before .before .before .before .before .before .before .before .before .before .before .before .before .match2 .keys2) z (c .before .before .before .before .before .before .before .before .before .before .before .before .before .bump .ensures) (all-of (c .before .before .before .before .before .before .before .before .args2 .given .1) (c .before .before .before .before .before .before .before .before .before .before .before .before .call-args .ensures src)) (all-ready [] pr.args _ (start-past (c .before .before .before .before .before .before .before .before .before .before .before .before .before .before .before .before .before .before .before .before .before .before .before .loop .inv .ready) (is-start (code LParen) (sym (c .before .before .before .before .before .before .before .before .before .before .before .before .before .before .before .before .before .before .before .before .before .peek .ensures) ∙ c .before .before .before .before .before .before .before .before .before .before .before .before .before .before .before .before .before .before .before .before .match2 .keys2) tt) (c .before .before .before .before .before .before .before .before .before .before .before .before .before .bump .ensures)) (all-of (c .before .before .before .before .before .before .before .before .args2 .given .1) (c .before .before .before .before .before .before .before .before .before .before .before .before .call-args .ensures []))) (c .before .node2 .given .1) (c .before .before .before .before .before .call .ensures)) (close-ready (code RParen) _ (λ u. u) (all-ready [] pr.args _ (start-past (c .before .before .before .before .before .before .before .before .before .before .before .before .before .before .before .before .before .before .before .before .before .before .before .loop .inv .ready) (is-start (code LParen) (sym (c .before .before .before .before .before .before .before .before .before .before .before .before .before .before .before .before .before .before .before .before .before .peek .ensures) ∙ c .before .before .before .before .before .before .before .before .before .before .before .before .before .before .before .before .before .before .before .before .match2 .keys2) tt) (c .before .before .before .before .before .before .before .before .before .before .before .before .before .bump .ensures)) (all-of (c .before .before .before .before .before .before .before .before .args2 .given .1) (c .before .before .before .before .before .before .before .before .before .before .before .before .call-args .ensures []))) (c .before .node2 .given .1) (c .before .before .before .before .before .call .ensures)) (omega (arith, z .0, z .1)) (c .before .before .before .before .before .call .kept .1 .0 ∙ c .before .before .before .before .before .before .before .before .before .before .before .before .call-args .kept .1 .0)
+postfix-loop-again-2 t c = let z = (left-of (c .before .before .before .before .before .before .before .before .before .before .before .before .before .before .before .before .before .less2 .given .1) (c .before .before .before .before .before .before .before .before .before .before .before .before .before .before .before .before .before .before .before .enter2 .ensures)) in chain-on (c .before .before .before .before .before .before .before .before .before .before .before .before .before .before .before .before .before .before .before .before .before .before .before .loop .inv) (λ src o t n x. call-on x (c .before .before .before .before .before .before .before .before .before .before .before .before .before .before .before .before .before .before .before .before .before .before .before .loop .inv .ready .inside) (sym (c .before .before .before .before .before .before .before .before .before .before .before .before .before .before .before .before .before .before .before .before .before .peek .ensures) ∙ c .before .before .before .before .before .before .before .before .before .before .before .before .before .before .before .before .before .before .before .before .match2 .keys2) z (c .before .before .before .before .before .before .before .before .before .before .before .before .before .bump .ensures) (all-of (c .before .before .before .before .before .before .before .before .args2 .given .1) (c .before .before .before .before .before .before .before .before .before .before .before .before .call-args .ensures src)) (all-ready blank pr.args _ (start-past (c .before .before .before .before .before .before .before .before .before .before .before .before .before .before .before .before .before .before .before .before .before .before .before .loop .inv .ready) (is-start (code LParen) (sym (c .before .before .before .before .before .before .before .before .before .before .before .before .before .before .before .before .before .before .before .before .before .peek .ensures) ∙ c .before .before .before .before .before .before .before .before .before .before .before .before .before .before .before .before .before .before .before .before .match2 .keys2) tt) (c .before .before .before .before .before .before .before .before .before .before .before .before .before .bump .ensures)) (all-of (c .before .before .before .before .before .before .before .before .args2 .given .1) (c .before .before .before .before .before .before .before .before .before .before .before .before .call-args .ensures blank))) (c .before .node2 .given .1) (c .before .before .before .before .before .call .ensures)) (close-ready (code RParen) _ (λ u. u) (all-ready blank pr.args _ (start-past (c .before .before .before .before .before .before .before .before .before .before .before .before .before .before .before .before .before .before .before .before .before .before .before .loop .inv .ready) (is-start (code LParen) (sym (c .before .before .before .before .before .before .before .before .before .before .before .before .before .before .before .before .before .before .before .before .before .peek .ensures) ∙ c .before .before .before .before .before .before .before .before .before .before .before .before .before .before .before .before .before .before .before .before .match2 .keys2) tt) (c .before .before .before .before .before .before .before .before .before .before .before .before .before .bump .ensures)) (all-of (c .before .before .before .before .before .before .before .before .args2 .given .1) (c .before .before .before .before .before .before .before .before .before .before .before .before .call-args .ensures blank))) (c .before .node2 .given .1) (c .before .before .before .before .before .call .ensures)) (omega (arith, z .0, z .1)) (c .before .before .before .before .before .call .kept .1 .0 ∙ c .before .before .before .before .before .before .before .before .before .before .before .before .call-args .kept .1 .0)
 
 postfix-same-length-7 : (t : ℕ) → postfix-lts.Need-same-length-7 (postfix-calls t) (postfix-at t) postfix.Post postfix-Inv-loop postfix-μ-loop
 postfix-same-length-7 t c = c .before .before .before .loop .inv .long ∙ c .before .before .before .before .before .before .before .before .before .primary .kept .1 .0
@@ -928,7 +928,7 @@ primary-enum-known-inner : (t : ℕ) → primary-lts.Need-enum-known-inner (prim
 primary-enum-known-inner t c = search needs
 
 primary-parens-requires : (t : ℕ) → primary-lts.Need-parens-requires (primary-calls t) (primary-at t) primary.Post
-primary-parens-requires t c κs = took-ready [] pr.expr (c .before .before .before .before .before .before .before .before .before .before .before .before .before .before .args .allowance) (ready-past (c .before .before .before .before .before .before .before .before .before .before .before .before .before .before .pre .1) (past-as (code LParen) (λ u. u) (c .before .before .before .before .before .before .before .before .before .before .before .before .before .before .pre .1 .closed) (c .before .before .before .before .before .before .before .before .before .before .before .before .before .before .pre .1 .inside) (sym (c .before .before .before .before .before .before .before .before .before .before .before .peek .ensures) ∙ c .before .before .before .before .before .before .before .before .match .keys1)) (c .before .before .before .before .before .before .bump .ensures)) (took-of (c .before .inner .given .1) (c .before .before .before .before .before .expr .ensures []))
+primary-parens-requires t c κs = took-ready blank pr.expr (c .before .before .before .before .before .before .before .before .before .before .before .before .before .before .args .allowance) (ready-past (c .before .before .before .before .before .before .before .before .before .before .before .before .before .before .pre .1) (past-as (code LParen) (λ u. u) (c .before .before .before .before .before .before .before .before .before .before .before .before .before .before .pre .1 .closed) (c .before .before .before .before .before .before .before .before .before .before .before .before .before .before .pre .1 .inside) (sym (c .before .before .before .before .before .before .before .before .before .before .before .peek .ensures) ∙ c .before .before .before .before .before .before .before .before .match .keys1)) (c .before .before .before .before .before .before .bump .ensures)) (took-of (c .before .inner .given .1) (c .before .before .before .before .before .expr .ensures blank))
 
 primary-bump-requires-2 : (t : ℕ) → primary-lts.Need-bump-requires-2 (primary-calls t) (primary-at t) primary.Post
 primary-bump-requires-2 t c κs = ready-small (c .before .before .before .before .before .before .pre .1)
@@ -952,7 +952,7 @@ primary-enum-known-inner-2 : (t : ℕ) → primary-lts.Need-enum-known-inner-2 (
 primary-enum-known-inner-2 t c = search needs
 
 primary-wrap-requires : (t : ℕ) → primary-lts.Need-wrap-requires (primary-calls t) (primary-at t) primary.Post
-primary-wrap-requires t c κs = let k = (took-of (c .before .before .inner2 .given .1) (c .before .before .before .before .before .before .expr2 .ensures [])) in let y = took-onward [] pr.expr (c .before .before .before .before .before .before .before .before .before .before .before .before .before .before .before .before .before .before .before .args .allowance) ((ready-past (ready-past (c .before .before .before .before .before .before .before .before .before .before .before .before .before .before .before .before .before .before .before .pre .1) (past-as (code Checked) (λ u. u) (c .before .before .before .before .before .before .before .before .before .before .before .before .before .before .before .before .before .before .before .pre .1 .closed) (c .before .before .before .before .before .before .before .before .before .before .before .before .before .before .before .before .before .before .before .pre .1 .inside) (sym (c .before .before .before .before .before .before .before .before .before .before .before .before .before .before .before .before .peek .ensures) ∙ c .before .before .before .before .before .before .before .before .before .before .before .before .before .match .keys2)) (c .before .before .before .before .before .before .before .before .before .before .before .before .bump2 .ensures)) (past-as (code LParen) (λ u. u) (c .before .before .before .before .before .before .before .before .before .before .before .before .before .before .before .before .before .before .before .pre .1 .closed) ((ready-past (c .before .before .before .before .before .before .before .before .before .before .before .before .before .before .before .before .before .before .before .pre .1) (past-as (code Checked) (λ u. u) (c .before .before .before .before .before .before .before .before .before .before .before .before .before .before .before .before .before .before .before .pre .1 .closed) (c .before .before .before .before .before .before .before .before .before .before .before .before .before .before .before .before .before .before .before .pre .1 .inside) (sym (c .before .before .before .before .before .before .before .before .before .before .before .before .before .before .before .before .peek .ensures) ∙ c .before .before .before .before .before .before .before .before .before .before .before .before .before .match .keys2)) (c .before .before .before .before .before .before .before .before .before .before .before .before .bump2 .ensures)) .inside) ((next-of (c .before .before .before .before .before .before .before .before .before .inside .given .1) (c .before .before .before .before .before .before .before .before .before .before .before .expect .ensures)) .0)) ((next-of (c .before .before .before .before .before .before .before .before .before .inside .given .1) (c .before .before .before .before .before .before .before .before .before .before .before .expect .ensures)) .1)) .inside) k in (took-ready [] pr.expr (c .before .before .before .before .before .before .before .before .before .before .before .before .before .before .before .before .before .before .before .args .allowance) (ready-past (ready-past (c .before .before .before .before .before .before .before .before .before .before .before .before .before .before .before .before .before .before .before .pre .1) (past-as (code Checked) (λ u. u) (c .before .before .before .before .before .before .before .before .before .before .before .before .before .before .before .before .before .before .before .pre .1 .closed) (c .before .before .before .before .before .before .before .before .before .before .before .before .before .before .before .before .before .before .before .pre .1 .inside) (sym (c .before .before .before .before .before .before .before .before .before .before .before .before .before .before .before .before .peek .ensures) ∙ c .before .before .before .before .before .before .before .before .before .before .before .before .before .match .keys2)) (c .before .before .before .before .before .before .before .before .before .before .before .before .bump2 .ensures)) (past-as (code LParen) (λ u. u) (c .before .before .before .before .before .before .before .before .before .before .before .before .before .before .before .before .before .before .before .pre .1 .closed) ((ready-past (c .before .before .before .before .before .before .before .before .before .before .before .before .before .before .before .before .before .before .before .pre .1) (past-as (code Checked) (λ u. u) (c .before .before .before .before .before .before .before .before .before .before .before .before .before .before .before .before .before .before .before .pre .1 .closed) (c .before .before .before .before .before .before .before .before .before .before .before .before .before .before .before .before .before .before .before .pre .1 .inside) (sym (c .before .before .before .before .before .before .before .before .before .before .before .before .before .before .before .before .peek .ensures) ∙ c .before .before .before .before .before .before .before .before .before .before .before .before .before .match .keys2)) (c .before .before .before .before .before .before .before .before .before .before .before .before .bump2 .ensures)) .inside) ((next-of (c .before .before .before .before .before .before .before .before .before .inside .given .1) (c .before .before .before .before .before .before .before .before .before .before .before .expect .ensures)) .0)) ((next-of (c .before .before .before .before .before .before .before .before .before .inside .given .1) (c .before .before .before .before .before .before .before .before .before .before .before .expect .ensures)) .1)) k, omega (arith, y .0, c .before .before .before .before .before .before .before .before .before .before .before .before .bump2 .ensures, (next-of (c .before .before .before .before .before .before .before .before .before .inside .given .1) (c .before .before .before .before .before .before .before .before .before .before .before .expect .ensures)) .1))
+primary-wrap-requires t c κs = let k = (took-of (c .before .before .inner2 .given .1) (c .before .before .before .before .before .before .expr2 .ensures blank)) in let y = took-onward blank pr.expr (c .before .before .before .before .before .before .before .before .before .before .before .before .before .before .before .before .before .before .before .args .allowance) ((ready-past (ready-past (c .before .before .before .before .before .before .before .before .before .before .before .before .before .before .before .before .before .before .before .pre .1) (past-as (code Checked) (λ u. u) (c .before .before .before .before .before .before .before .before .before .before .before .before .before .before .before .before .before .before .before .pre .1 .closed) (c .before .before .before .before .before .before .before .before .before .before .before .before .before .before .before .before .before .before .before .pre .1 .inside) (sym (c .before .before .before .before .before .before .before .before .before .before .before .before .before .before .before .before .peek .ensures) ∙ c .before .before .before .before .before .before .before .before .before .before .before .before .before .match .keys2)) (c .before .before .before .before .before .before .before .before .before .before .before .before .bump2 .ensures)) (past-as (code LParen) (λ u. u) (c .before .before .before .before .before .before .before .before .before .before .before .before .before .before .before .before .before .before .before .pre .1 .closed) ((ready-past (c .before .before .before .before .before .before .before .before .before .before .before .before .before .before .before .before .before .before .before .pre .1) (past-as (code Checked) (λ u. u) (c .before .before .before .before .before .before .before .before .before .before .before .before .before .before .before .before .before .before .before .pre .1 .closed) (c .before .before .before .before .before .before .before .before .before .before .before .before .before .before .before .before .before .before .before .pre .1 .inside) (sym (c .before .before .before .before .before .before .before .before .before .before .before .before .before .before .before .before .peek .ensures) ∙ c .before .before .before .before .before .before .before .before .before .before .before .before .before .match .keys2)) (c .before .before .before .before .before .before .before .before .before .before .before .before .bump2 .ensures)) .inside) ((next-of (c .before .before .before .before .before .before .before .before .before .inside .given .1) (c .before .before .before .before .before .before .before .before .before .before .before .expect .ensures)) .0)) ((next-of (c .before .before .before .before .before .before .before .before .before .inside .given .1) (c .before .before .before .before .before .before .before .before .before .before .before .expect .ensures)) .1)) .inside) k in (took-ready blank pr.expr (c .before .before .before .before .before .before .before .before .before .before .before .before .before .before .before .before .before .before .before .args .allowance) (ready-past (ready-past (c .before .before .before .before .before .before .before .before .before .before .before .before .before .before .before .before .before .before .before .pre .1) (past-as (code Checked) (λ u. u) (c .before .before .before .before .before .before .before .before .before .before .before .before .before .before .before .before .before .before .before .pre .1 .closed) (c .before .before .before .before .before .before .before .before .before .before .before .before .before .before .before .before .before .before .before .pre .1 .inside) (sym (c .before .before .before .before .before .before .before .before .before .before .before .before .before .before .before .before .peek .ensures) ∙ c .before .before .before .before .before .before .before .before .before .before .before .before .before .match .keys2)) (c .before .before .before .before .before .before .before .before .before .before .before .before .bump2 .ensures)) (past-as (code LParen) (λ u. u) (c .before .before .before .before .before .before .before .before .before .before .before .before .before .before .before .before .before .before .before .pre .1 .closed) ((ready-past (c .before .before .before .before .before .before .before .before .before .before .before .before .before .before .before .before .before .before .before .pre .1) (past-as (code Checked) (λ u. u) (c .before .before .before .before .before .before .before .before .before .before .before .before .before .before .before .before .before .before .before .pre .1 .closed) (c .before .before .before .before .before .before .before .before .before .before .before .before .before .before .before .before .before .before .before .pre .1 .inside) (sym (c .before .before .before .before .before .before .before .before .before .before .before .before .before .before .before .before .peek .ensures) ∙ c .before .before .before .before .before .before .before .before .before .before .before .before .before .match .keys2)) (c .before .before .before .before .before .before .before .before .before .before .before .before .bump2 .ensures)) .inside) ((next-of (c .before .before .before .before .before .before .before .before .before .inside .given .1) (c .before .before .before .before .before .before .before .before .before .before .before .expect .ensures)) .0)) ((next-of (c .before .before .before .before .before .before .before .before .before .inside .given .1) (c .before .before .before .before .before .before .before .before .before .before .before .expect .ensures)) .1)) k, omega (arith, y .0, c .before .before .before .before .before .before .before .before .before .before .before .before .bump2 .ensures, (next-of (c .before .before .before .before .before .before .before .before .before .inside .given .1) (c .before .before .before .before .before .before .before .before .before .before .before .expect .ensures)) .1))
 
 primary-bump-requires-3 : (t : ℕ) → primary-lts.Need-bump-requires-3 (primary-calls t) (primary-at t) primary.Post
 primary-bump-requires-3 t c κs = ready-small (c .before .before .before .before .before .before .pre .1)
@@ -976,7 +976,7 @@ primary-enum-known-inner-3 : (t : ℕ) → primary-lts.Need-enum-known-inner-3 (
 primary-enum-known-inner-3 t c = search needs
 
 primary-wrap-requires-2 : (t : ℕ) → primary-lts.Need-wrap-requires-2 (primary-calls t) (primary-at t) primary.Post
-primary-wrap-requires-2 t c κs = let k = (took-of (c .before .before .inner3 .given .1) (c .before .before .before .before .before .before .expr3 .ensures [])) in let y = took-onward [] pr.expr (c .before .before .before .before .before .before .before .before .before .before .before .before .before .before .before .before .before .before .before .args .allowance) ((ready-past (ready-past (c .before .before .before .before .before .before .before .before .before .before .before .before .before .before .before .before .before .before .before .pre .1) (past-as (code Wrapping) (λ u. u) (c .before .before .before .before .before .before .before .before .before .before .before .before .before .before .before .before .before .before .before .pre .1 .closed) (c .before .before .before .before .before .before .before .before .before .before .before .before .before .before .before .before .before .before .before .pre .1 .inside) (sym (c .before .before .before .before .before .before .before .before .before .before .before .before .before .before .before .before .peek .ensures) ∙ c .before .before .before .before .before .before .before .before .before .before .before .before .before .match .keys3)) (c .before .before .before .before .before .before .before .before .before .before .before .before .bump3 .ensures)) (past-as (code LParen) (λ u. u) (c .before .before .before .before .before .before .before .before .before .before .before .before .before .before .before .before .before .before .before .pre .1 .closed) ((ready-past (c .before .before .before .before .before .before .before .before .before .before .before .before .before .before .before .before .before .before .before .pre .1) (past-as (code Wrapping) (λ u. u) (c .before .before .before .before .before .before .before .before .before .before .before .before .before .before .before .before .before .before .before .pre .1 .closed) (c .before .before .before .before .before .before .before .before .before .before .before .before .before .before .before .before .before .before .before .pre .1 .inside) (sym (c .before .before .before .before .before .before .before .before .before .before .before .before .before .before .before .before .peek .ensures) ∙ c .before .before .before .before .before .before .before .before .before .before .before .before .before .match .keys3)) (c .before .before .before .before .before .before .before .before .before .before .before .before .bump3 .ensures)) .inside) ((next-of (c .before .before .before .before .before .before .before .before .before .inside2 .given .1) (c .before .before .before .before .before .before .before .before .before .before .before .expect2 .ensures)) .0)) ((next-of (c .before .before .before .before .before .before .before .before .before .inside2 .given .1) (c .before .before .before .before .before .before .before .before .before .before .before .expect2 .ensures)) .1)) .inside) k in (took-ready [] pr.expr (c .before .before .before .before .before .before .before .before .before .before .before .before .before .before .before .before .before .before .before .args .allowance) (ready-past (ready-past (c .before .before .before .before .before .before .before .before .before .before .before .before .before .before .before .before .before .before .before .pre .1) (past-as (code Wrapping) (λ u. u) (c .before .before .before .before .before .before .before .before .before .before .before .before .before .before .before .before .before .before .before .pre .1 .closed) (c .before .before .before .before .before .before .before .before .before .before .before .before .before .before .before .before .before .before .before .pre .1 .inside) (sym (c .before .before .before .before .before .before .before .before .before .before .before .before .before .before .before .before .peek .ensures) ∙ c .before .before .before .before .before .before .before .before .before .before .before .before .before .match .keys3)) (c .before .before .before .before .before .before .before .before .before .before .before .before .bump3 .ensures)) (past-as (code LParen) (λ u. u) (c .before .before .before .before .before .before .before .before .before .before .before .before .before .before .before .before .before .before .before .pre .1 .closed) ((ready-past (c .before .before .before .before .before .before .before .before .before .before .before .before .before .before .before .before .before .before .before .pre .1) (past-as (code Wrapping) (λ u. u) (c .before .before .before .before .before .before .before .before .before .before .before .before .before .before .before .before .before .before .before .pre .1 .closed) (c .before .before .before .before .before .before .before .before .before .before .before .before .before .before .before .before .before .before .before .pre .1 .inside) (sym (c .before .before .before .before .before .before .before .before .before .before .before .before .before .before .before .before .peek .ensures) ∙ c .before .before .before .before .before .before .before .before .before .before .before .before .before .match .keys3)) (c .before .before .before .before .before .before .before .before .before .before .before .before .bump3 .ensures)) .inside) ((next-of (c .before .before .before .before .before .before .before .before .before .inside2 .given .1) (c .before .before .before .before .before .before .before .before .before .before .before .expect2 .ensures)) .0)) ((next-of (c .before .before .before .before .before .before .before .before .before .inside2 .given .1) (c .before .before .before .before .before .before .before .before .before .before .before .expect2 .ensures)) .1)) k, omega (arith, y .0, c .before .before .before .before .before .before .before .before .before .before .before .before .bump3 .ensures, (next-of (c .before .before .before .before .before .before .before .before .before .inside2 .given .1) (c .before .before .before .before .before .before .before .before .before .before .before .expect2 .ensures)) .1))
+primary-wrap-requires-2 t c κs = let k = (took-of (c .before .before .inner3 .given .1) (c .before .before .before .before .before .before .expr3 .ensures blank)) in let y = took-onward blank pr.expr (c .before .before .before .before .before .before .before .before .before .before .before .before .before .before .before .before .before .before .before .args .allowance) ((ready-past (ready-past (c .before .before .before .before .before .before .before .before .before .before .before .before .before .before .before .before .before .before .before .pre .1) (past-as (code Wrapping) (λ u. u) (c .before .before .before .before .before .before .before .before .before .before .before .before .before .before .before .before .before .before .before .pre .1 .closed) (c .before .before .before .before .before .before .before .before .before .before .before .before .before .before .before .before .before .before .before .pre .1 .inside) (sym (c .before .before .before .before .before .before .before .before .before .before .before .before .before .before .before .before .peek .ensures) ∙ c .before .before .before .before .before .before .before .before .before .before .before .before .before .match .keys3)) (c .before .before .before .before .before .before .before .before .before .before .before .before .bump3 .ensures)) (past-as (code LParen) (λ u. u) (c .before .before .before .before .before .before .before .before .before .before .before .before .before .before .before .before .before .before .before .pre .1 .closed) ((ready-past (c .before .before .before .before .before .before .before .before .before .before .before .before .before .before .before .before .before .before .before .pre .1) (past-as (code Wrapping) (λ u. u) (c .before .before .before .before .before .before .before .before .before .before .before .before .before .before .before .before .before .before .before .pre .1 .closed) (c .before .before .before .before .before .before .before .before .before .before .before .before .before .before .before .before .before .before .before .pre .1 .inside) (sym (c .before .before .before .before .before .before .before .before .before .before .before .before .before .before .before .before .peek .ensures) ∙ c .before .before .before .before .before .before .before .before .before .before .before .before .before .match .keys3)) (c .before .before .before .before .before .before .before .before .before .before .before .before .bump3 .ensures)) .inside) ((next-of (c .before .before .before .before .before .before .before .before .before .inside2 .given .1) (c .before .before .before .before .before .before .before .before .before .before .before .expect2 .ensures)) .0)) ((next-of (c .before .before .before .before .before .before .before .before .before .inside2 .given .1) (c .before .before .before .before .before .before .before .before .before .before .before .expect2 .ensures)) .1)) .inside) k in (took-ready blank pr.expr (c .before .before .before .before .before .before .before .before .before .before .before .before .before .before .before .before .before .before .before .args .allowance) (ready-past (ready-past (c .before .before .before .before .before .before .before .before .before .before .before .before .before .before .before .before .before .before .before .pre .1) (past-as (code Wrapping) (λ u. u) (c .before .before .before .before .before .before .before .before .before .before .before .before .before .before .before .before .before .before .before .pre .1 .closed) (c .before .before .before .before .before .before .before .before .before .before .before .before .before .before .before .before .before .before .before .pre .1 .inside) (sym (c .before .before .before .before .before .before .before .before .before .before .before .before .before .before .before .before .peek .ensures) ∙ c .before .before .before .before .before .before .before .before .before .before .before .before .before .match .keys3)) (c .before .before .before .before .before .before .before .before .before .before .before .before .bump3 .ensures)) (past-as (code LParen) (λ u. u) (c .before .before .before .before .before .before .before .before .before .before .before .before .before .before .before .before .before .before .before .pre .1 .closed) ((ready-past (c .before .before .before .before .before .before .before .before .before .before .before .before .before .before .before .before .before .before .before .pre .1) (past-as (code Wrapping) (λ u. u) (c .before .before .before .before .before .before .before .before .before .before .before .before .before .before .before .before .before .before .before .pre .1 .closed) (c .before .before .before .before .before .before .before .before .before .before .before .before .before .before .before .before .before .before .before .pre .1 .inside) (sym (c .before .before .before .before .before .before .before .before .before .before .before .before .before .before .before .before .peek .ensures) ∙ c .before .before .before .before .before .before .before .before .before .before .before .before .before .match .keys3)) (c .before .before .before .before .before .before .before .before .before .before .before .before .bump3 .ensures)) .inside) ((next-of (c .before .before .before .before .before .before .before .before .before .inside2 .given .1) (c .before .before .before .before .before .before .before .before .before .before .before .expect2 .ensures)) .0)) ((next-of (c .before .before .before .before .before .before .before .before .before .inside2 .given .1) (c .before .before .before .before .before .before .before .before .before .before .before .expect2 .ensures)) .1)) k, omega (arith, y .0, c .before .before .before .before .before .before .before .before .before .before .before .before .bump3 .ensures, (next-of (c .before .before .before .before .before .before .before .before .before .inside2 .given .1) (c .before .before .before .before .before .before .before .before .before .before .before .expect2 .ensures)) .1))
 
 primary-err-requires : (t : ℕ) → primary-lts.Need-err-requires (primary-calls t) (primary-at t) primary.Post
 primary-err-requires t c κs = c .before .before .before .before .before .before .pre .1 .inside
@@ -1048,7 +1048,7 @@ shift-returns : (t : ℕ) → shift-lts.Need-returns (shift-calls t) (shift-at t
 shift-returns t c = λ src. failed-by (c .enum-told .given .1) (level-bad pr.shift src (c .before .before .before .before .before .before .before .before .args .tokens .now) (c .before .before .before .before .before .before .before .before .args .at .0) (c .before .before .before .before .before .before .before .before .args .allowance) (failed-of (c .enum-told .given .1) (c .before .before .before .before .additive .ensures src)))
 
 shift-loop-holds : (t : ℕ) → shift-lts.Need-loop-holds (shift-calls t) (shift-at t) shift.Post shift-Inv-loop shift-μ-loop
-shift-loop-holds t c = chain-in (took-ready [] (pr.level pr.additive) (c .before .before .before .before .before .before .before .before .before .args .allowance) (c .before .before .before .before .before .before .before .before .before .pre .1) (took-of (c .before .first .given .1) (c .before .before .before .before .before .additive .ensures [])))
+shift-loop-holds t c = chain-in (took-ready blank (pr.level pr.additive) (c .before .before .before .before .before .before .before .before .before .args .allowance) (c .before .before .before .before .before .before .before .before .before .pre .1) (took-of (c .before .first .given .1) (c .before .before .before .before .before .additive .ensures blank)))
 
 shift-peek-requires : (t : ℕ) → shift-lts.Need-peek-requires (shift-calls t) (shift-at t) shift.Post shift-Inv-loop shift-μ-loop
 shift-peek-requires t c κs = (c .before .loop .inv .ready .inside)
@@ -1057,7 +1057,7 @@ shift-same-length-2 : (t : ℕ) → shift-lts.Need-same-length-2 (shift-calls t)
 shift-same-length-2 t c = c .before .before .before .loop .inv .long ∙ c .before .before .before .before .before .before .before .before .before .additive .kept .1 .0
 
 shift-returns-2 : (t : ℕ) → shift-lts.Need-returns-2 (shift-calls t) (shift-at t) shift.Post shift-Inv-loop shift-μ-loop
-shift-returns-2 t c = λ src. took (link-stop pr.shift (c .before .before .before .loop .inv .carries src _ _ _ (level-first pr.shift src (c .before .before .before .before .before .before .before .before .before .before .before .before .before .args .tokens .now) (c .before .before .before .before .before .before .before .before .before .before .before .before .before .args .at .0) (c .before .before .before .before .before .before .before .before .before .before .before .before .before .args .allowance) (took-of (c .before .before .before .before .before .first .given .1) (c .before .before .before .before .before .before .before .before .before .additive .ensures src)))) (c .before .before .before .loop .inv .ready .inside) (not-one (code Shr) (λ z. c .if1 .taken (c .before .peek .ensures ∙ z))))
+shift-returns-2 t c = λ src. took (link-stop pr.shift (c .before .before .before .loop .inv .carries src _ _ _ (level-first pr.shift src (c .before .before .before .before .before .before .before .before .before .before .before .before .before .args .tokens .now) (c .before .before .before .before .before .before .before .before .before .before .before .before .before .args .at .0) (c .before .before .before .before .before .before .before .before .before .before .before .before .before .args .allowance) (took-of (c .before .before .before .before .before .first .given .1) (c .before .before .before .before .before .before .before .before .before .additive .ensures src)))) (c .before .before .before .loop .inv .ready .inside) (no-shift (c .before .before .before .loop .inv .ready) (λ z. c .if1 .taken (c .before .peek .ensures ∙ z))))
 
 shift-bump-requires : (t : ℕ) → shift-lts.Need-bump-requires (shift-calls t) (shift-at t) shift.Post shift-Inv-loop shift-μ-loop
 shift-bump-requires t c κs = ready-small (c .before .before .before .loop .inv .ready)
@@ -1093,13 +1093,13 @@ shift-enum-known-right : (t : ℕ) → shift-lts.Need-enum-known-right (shift-ca
 shift-enum-known-right t c = search needs
 
 shift-fold-requires : (t : ℕ) → shift-lts.Need-fold-requires (shift-calls t) (shift-at t) shift.Post shift-Inv-loop shift-μ-loop
-shift-fold-requires t c κs = (ready-small (c .before .before .before .before .before .before .before .before .before .before .before .before .before .before .before .before .before .loop .inv .ready), ready-few (took-ready [] (pr.level pr.additive) _ (ready-past (c .before .before .before .before .before .before .before .before .before .before .before .before .before .before .before .before .before .loop .inv .ready) (link-past pr.shift (c .before .before .before .before .before .before .before .before .before .before .before .before .before .before .before .before .before .loop .inv .ready) (operates pr.shift (code Shr) 13 (sym (c .before .before .before .before .before .before .before .before .before .before .before .before .before .before .before .peek .ensures) ∙ c .before .before .before .before .before .before .before .before .before .before .before .before .before .before .if1 .left) tt refl)) (c .before .before .before .before .before .before .before .before .before .before .before .before .before .bump .ensures)) (took-of (c .before .before .right .given .1) (c .before .before .before .before .before .before .additive2 .ensures []))))
+shift-fold-requires t c κs = (ready-small (c .before .before .before .before .before .before .before .before .before .before .before .before .before .before .before .before .before .loop .inv .ready), ready-few (took-ready blank (pr.level pr.additive) _ (ready-past (c .before .before .before .before .before .before .before .before .before .before .before .before .before .before .before .before .before .loop .inv .ready) (link-past pr.shift (c .before .before .before .before .before .before .before .before .before .before .before .before .before .before .before .before .before .loop .inv .ready) (operates pr.shift (code Shr) 13 (sym (c .before .before .before .before .before .before .before .before .before .before .before .before .before .before .before .peek .ensures) ∙ c .before .before .before .before .before .before .before .before .before .before .before .before .before .before .if1 .left) tt refl)) (c .before .before .before .before .before .before .before .before .before .before .before .before .before .bump .ensures)) (took-of (c .before .before .right .given .1) (c .before .before .before .before .before .before .additive2 .ensures blank))))
 
 shift-loop-less : (t : ℕ) → shift-lts.Need-loop-less (shift-calls t) (shift-at t) shift.Post shift-Inv-loop shift-μ-loop
 shift-loop-less t c = let z = (left-of (c .before .before .before .before .before .before .before .before .before .before .before .before .before .less .given .1) (c .before .before .before .before .before .before .before .before .before .before .before .before .before .before .before .enter .ensures)) in omega (arith, z .0, z .1)
 
 shift-loop-again : (t : ℕ) → shift-lts.Need-loop-again (shift-calls t) (shift-at t) shift.Post shift-Inv-loop shift-μ-loop
-shift-loop-again t c = let z = (left-of (c .before .before .before .before .before .before .before .before .before .before .before .before .before .less .given .1) (c .before .before .before .before .before .before .before .before .before .before .before .before .before .before .before .enter .ensures)) in chain-on (c .before .before .before .before .before .before .before .before .before .before .before .before .before .before .before .before .before .before .before .before .loop .inv) (λ src o t n x. link-on pr.shift x (c .before .before .before .before .before .before .before .before .before .before .before .before .before .before .before .before .before .before .before .before .loop .inv .ready .inside) (operates pr.shift (code Shr) 13 (sym (c .before .before .before .before .before .before .before .before .before .before .before .before .before .before .before .before .before .before .peek .ensures) ∙ c .before .before .before .before .before .before .before .before .before .before .before .before .before .before .before .before .before .if1 .left) tt refl) (c .before .before .before .before .before .before .before .before .before .before .before .before .before .before .before .before .bump .ensures) z (took-of (c .before .before .before .before .before .right .given .1) (c .before .before .before .before .before .before .before .before .before .additive2 .ensures src)) (c .before .before .fold .ensures .0) (c .before .before .fold .ensures .1)) (link-ready [] pr.shift (c .before .before .before .before .before .before .before .before .before .before .before .before .before .before .before .before .before .before .before .before .loop .left) _ (c .before .before .before .before .before .before .before .before .before .before .before .before .before .before .before .before .before .before .before .before .loop .inv .ready) (link-past pr.shift (c .before .before .before .before .before .before .before .before .before .before .before .before .before .before .before .before .before .before .before .before .loop .inv .ready) (operates pr.shift (code Shr) 13 (sym (c .before .before .before .before .before .before .before .before .before .before .before .before .before .before .before .before .before .before .peek .ensures) ∙ c .before .before .before .before .before .before .before .before .before .before .before .before .before .before .before .before .before .if1 .left) tt refl)) (c .before .before .before .before .before .before .before .before .before .before .before .before .before .before .before .before .bump .ensures) (took-of (c .before .before .before .before .before .right .given .1) (c .before .before .before .before .before .before .before .before .before .additive2 .ensures [])) (c .before .before .fold .ensures .0)) (omega (arith, z .0, z .1)) (c .before .before .fold .kept .0 ∙ c .before .before .before .before .before .before .before .before .before .additive2 .kept .1 .0)
+shift-loop-again t c = let z = (left-of (c .before .before .before .before .before .before .before .before .before .before .before .before .before .less .given .1) (c .before .before .before .before .before .before .before .before .before .before .before .before .before .before .before .enter .ensures)) in chain-on (c .before .before .before .before .before .before .before .before .before .before .before .before .before .before .before .before .before .before .before .before .loop .inv) (λ src o t n x. link-on pr.shift x (c .before .before .before .before .before .before .before .before .before .before .before .before .before .before .before .before .before .before .before .before .loop .inv .ready .inside) (operates pr.shift (code Shr) 13 (sym (c .before .before .before .before .before .before .before .before .before .before .before .before .before .before .before .before .before .before .peek .ensures) ∙ c .before .before .before .before .before .before .before .before .before .before .before .before .before .before .before .before .before .if1 .left) tt refl) (c .before .before .before .before .before .before .before .before .before .before .before .before .before .before .before .before .bump .ensures) z (took-of (c .before .before .before .before .before .right .given .1) (c .before .before .before .before .before .before .before .before .before .additive2 .ensures src)) (c .before .before .fold .ensures .0) (c .before .before .fold .ensures .1)) (link-ready blank pr.shift (c .before .before .before .before .before .before .before .before .before .before .before .before .before .before .before .before .before .before .before .before .loop .left) _ (c .before .before .before .before .before .before .before .before .before .before .before .before .before .before .before .before .before .before .before .before .loop .inv .ready) (link-past pr.shift (c .before .before .before .before .before .before .before .before .before .before .before .before .before .before .before .before .before .before .before .before .loop .inv .ready) (operates pr.shift (code Shr) 13 (sym (c .before .before .before .before .before .before .before .before .before .before .before .before .before .before .before .before .before .before .peek .ensures) ∙ c .before .before .before .before .before .before .before .before .before .before .before .before .before .before .before .before .before .if1 .left) tt refl)) (c .before .before .before .before .before .before .before .before .before .before .before .before .before .before .before .before .bump .ensures) (took-of (c .before .before .before .before .before .right .given .1) (c .before .before .before .before .before .before .before .before .before .additive2 .ensures blank)) (c .before .before .fold .ensures .0)) (omega (arith, z .0, z .1)) (c .before .before .fold .kept .0 ∙ c .before .before .before .before .before .before .before .before .before .additive2 .kept .1 .0)
 
 unary-peek-requires : (t : ℕ) → unary-lts.Need-peek-requires (unary-calls t) (unary-at t) unary.Post
 unary-peek-requires t c κs = c .before .before .pre .1 .inside
@@ -1138,7 +1138,7 @@ unary-enum-known-inner : (t : ℕ) → unary-lts.Need-enum-known-inner (unary-ca
 unary-enum-known-inner t c = search needs
 
 unary-prefix-requires : (t : ℕ) → unary-lts.Need-prefix-requires (unary-calls t) (unary-at t) unary.Post
-unary-prefix-requires t c κs = let k = (took-of (c .before .before .inner .given .1) (c .before .before .before .before .before .before .unary .ensures [])) in let y = took-onward [] pr.unary _ ((ready-past (c .before .before .before .before .before .before .before .before .before .before .before .before .before .before .before .before .before .before .pre .1) (prefix-past (c .before .before .before .before .before .before .before .before .before .before .before .before .before .before .before .before .before .before .pre .1) (flagged-at prefixes unary-node (c .before .before .before .before .before .before .before .before .before .before .before .before .before .before .before .peek .ensures) (c .before .before .before .before .before .before .before .before .before .before .before .before .before .before .prefix-op .ensures) (c .before .before .before .before .before .before .before .before .before .before .before .before .before .if1 .left))) (c .before .before .before .before .before .before .before .before .before .before .before .before .bump .ensures)) .inside) k in (took-ready [] pr.unary _ (ready-past (c .before .before .before .before .before .before .before .before .before .before .before .before .before .before .before .before .before .before .pre .1) (prefix-past (c .before .before .before .before .before .before .before .before .before .before .before .before .before .before .before .before .before .before .pre .1) (flagged-at prefixes unary-node (c .before .before .before .before .before .before .before .before .before .before .before .before .before .before .before .peek .ensures) (c .before .before .before .before .before .before .before .before .before .before .before .before .before .before .prefix-op .ensures) (c .before .before .before .before .before .before .before .before .before .before .before .before .before .if1 .left))) (c .before .before .before .before .before .before .before .before .before .before .before .before .bump .ensures)) k, omega (arith, y .0, c .before .before .before .before .before .before .before .before .before .before .before .before .bump .ensures))
+unary-prefix-requires t c κs = let k = (took-of (c .before .before .inner .given .1) (c .before .before .before .before .before .before .unary .ensures blank)) in let y = took-onward blank pr.unary _ ((ready-past (c .before .before .before .before .before .before .before .before .before .before .before .before .before .before .before .before .before .before .pre .1) (prefix-past (c .before .before .before .before .before .before .before .before .before .before .before .before .before .before .before .before .before .before .pre .1) (flagged-at prefixes unary-node (c .before .before .before .before .before .before .before .before .before .before .before .before .before .before .before .peek .ensures) (c .before .before .before .before .before .before .before .before .before .before .before .before .before .before .prefix-op .ensures) (c .before .before .before .before .before .before .before .before .before .before .before .before .before .if1 .left))) (c .before .before .before .before .before .before .before .before .before .before .before .before .bump .ensures)) .inside) k in (took-ready blank pr.unary _ (ready-past (c .before .before .before .before .before .before .before .before .before .before .before .before .before .before .before .before .before .before .pre .1) (prefix-past (c .before .before .before .before .before .before .before .before .before .before .before .before .before .before .before .before .before .before .pre .1) (flagged-at prefixes unary-node (c .before .before .before .before .before .before .before .before .before .before .before .before .before .before .before .peek .ensures) (c .before .before .before .before .before .before .before .before .before .before .before .before .before .before .prefix-op .ensures) (c .before .before .before .before .before .before .before .before .before .before .before .before .before .if1 .left))) (c .before .before .before .before .before .before .before .before .before .before .before .before .bump .ensures)) k, omega (arith, y .0, c .before .before .before .before .before .before .before .before .before .before .before .before .bump .ensures))
 
 unary-returns-2 : (t : ℕ) → unary-lts.Need-returns-2 (unary-calls t) (unary-at t) unary.Post
 unary-returns-2 t c = λ src. failed (unary-deep src (c .before .before .before .before .before .before .before .before .before .before .args .tokens .now) (c .before .before .before .before .before .before .before .before .before .before .args .at .0) (c .before .before .before .before .before .before .before .before .before .before .args .allowance) (c .before .before .before .before .before .before .before .before .before .before .pre .1 .inside) (flagged-at prefixes unary-node (c .before .before .before .before .before .before .before .peek .ensures) (c .before .before .before .before .before .before .prefix-op .ensures) (c .before .before .before .before .before .if1 .left)) (c .before .before .before .before .bump .ensures) (prefix-past (c .before .before .before .before .before .before .before .before .before .before .pre .1) (flagged-at prefixes unary-node (c .before .before .before .before .before .before .before .peek .ensures) (c .before .before .before .before .before .before .prefix-op .ensures) (c .before .before .before .before .before .if1 .left))) (spent-of (c .before .e .given .1) (c .before .before .before .enter .ensures)))

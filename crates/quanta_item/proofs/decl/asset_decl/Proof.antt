@@ -1,7 +1,6 @@
 -- `quanta_item::decl::asset_decl` meets its contract.
 -- Assumes nothing.
 use mathlib.Core.Path.{refl}
-use mathlib.Core.List.{[]}
 use Rattle.quanta_grammar.specs.NodeKind.{nodeCode, asset-node}
 use Rattle.quanta_cursor.proofs.Places.{ready-small}
 use Rattle.quanta_cursor.proofs.Meeting.{failed}
@@ -10,12 +9,13 @@ use Rattle.quanta_item.proofs.Items.{asset-key, unnamed, named, semi-sh
 use borrow.Author.Needs.{needs}
 use Rattle.quanta_item.proofs.decl.asset_decl.Statement.{statement}
 use Rattle.quanta_item.proofs.decl.asset_decl.Tie as tie
+use Rattle.quanta_grammar.specs.Refine.{blank}
 
 bump-requires : tie.Need-bump-requires
 bump-requires c κs = search needs
 
 expect-ident-requires : tie.Need-expect-ident-requires
-expect-ident-requires c κs = (asset-key [] (c .before .before .before .before .args .tokens .now) 0 (c .before .before .before .before .pre .0) (c .bump .ensures) (c .before .before .before .before .args .tree .now) (c .before .before .before .before .pre .1)) .ready
+expect-ident-requires c κs = (asset-key blank (c .before .before .before .before .args .tokens .now) 0 (c .before .before .before .before .pre .0) (c .bump .ensures) (c .before .before .before .before .args .tree .now) (c .before .before .before .before .pre .1)) .ready
 
 enum-known-e : tie.Need-enum-known-e
 enum-known-e c = search needs
@@ -27,7 +27,7 @@ peek-span-requires : tie.Need-peek-span-requires
 peek-span-requires c κs = search needs
 
 close-semi-requires : tie.Need-close-semi-requires
-close-semi-requires c κs = ((named (asset-key [] (c .before .before .before .before .before .before .before .before .before .before .before .before .before .before .args .tokens .now) 0 (c .before .before .before .before .before .before .before .before .before .before .before .before .before .before .pre .0) (c .before .before .before .before .before .before .before .before .before .before .bump .ensures) (c .before .before .before .before .before .before .before .before .before .before .before .before .before .before .args .tree .now) (c .before .before .before .before .before .before .before .before .before .before .before .before .before .before .pre .1)) (c .before .before .before .before .before .before .before .before .before .expect-ident .ensures) (c .before .before .before .before .before .name .given .1)) .ready, ready-small (c .before .before .before .before .before .before .before .before .before .before .before .before .before .before .pre .0))
+close-semi-requires c κs = ((named (asset-key blank (c .before .before .before .before .before .before .before .before .before .before .before .before .before .before .args .tokens .now) 0 (c .before .before .before .before .before .before .before .before .before .before .before .before .before .before .pre .0) (c .before .before .before .before .before .before .before .before .before .before .bump .ensures) (c .before .before .before .before .before .before .before .before .before .before .before .before .before .before .args .tree .now) (c .before .before .before .before .before .before .before .before .before .before .before .before .before .before .pre .1)) (c .before .before .before .before .before .before .before .before .before .expect-ident .ensures) (c .before .before .before .before .before .name .given .1)) .ready, ready-small (c .before .before .before .before .before .before .before .before .before .before .before .before .before .before .pre .0))
 
 same-length : tie.Need-same-length
 same-length c = search needs

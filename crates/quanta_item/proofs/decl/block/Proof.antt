@@ -1,11 +1,11 @@
 -- `quanta_item::decl::block` meets its contract.
 -- Assumes nothing.
 use mathlib.Core.Path.{refl}
-use mathlib.Core.List.{[]}
 use Rattle.quanta_item.proofs.Blocks.{took-block, failed-block, block-unopened, opened-ready, block-bad, filled-ready, block-unclosed, block-took, joined-as}
 use borrow.Author.Needs.{needs}
 use Rattle.quanta_item.proofs.decl.block.Statement.{statement}
 use Rattle.quanta_item.proofs.decl.block.Tie as tie
+use Rattle.quanta_grammar.specs.Refine.{blank}
 
 expect-requires : tie.Need-expect-requires
 expect-requires c κs = search needs
@@ -17,7 +17,7 @@ enum-known-inside : tie.Need-enum-known-inside
 enum-known-inside c = search needs
 
 stmts-requires : tie.Need-stmts-requires
-stmts-requires c κs = opened-ready [] (c .before .before .before .before .before .before .before .args .tokens .now) (c .before .before .before .before .before .before .before .args .allowance) (c .before .before .before .before .before .before .before .pre) (c .before .before .before .before .before .before .before .args .tree .now) (c .before .before .before .before .expect .ensures) (c .before .before .inside .given .1)
+stmts-requires c κs = opened-ready blank (c .before .before .before .before .before .before .before .args .tokens .now) (c .before .before .before .before .before .before .before .args .allowance) (c .before .before .before .before .before .before .before .pre) (c .before .before .before .before .before .before .before .args .tree .now) (c .before .before .before .before .expect .ensures) (c .before .before .inside .given .1)
 
 enum-known-e-2 : tie.Need-enum-known-e-2
 enum-known-e-2 c = search needs
@@ -26,7 +26,7 @@ enum-known-body : tie.Need-enum-known-body
 enum-known-body c = search needs
 
 expect-requires-2 : tie.Need-expect-requires-2
-expect-requires-2 c κs = let z = filled-ready [] (c .before .before .before .before .before .before .before .before .before .before .before .before .before .before .before .args .tokens .now) (c .before .before .before .before .before .before .before .before .before .before .before .before .before .before .before .args .allowance) (c .before .before .before .before .before .before .before .before .before .before .before .before .before .before .before .pre) (c .before .before .before .before .before .before .before .before .before .before .before .before .before .before .before .args .tree .now) (c .before .before .before .before .before .before .before .before .before .before .before .before .expect .ensures) (c .before .before .before .before .before .before .before .before .before .before .inside .given .1) (c .before .before .before .before .before .before .before .stmts .ensures []) (c .before .before .before .body .given .1) in (z .inside, z .closed .few)
+expect-requires-2 c κs = let z = filled-ready blank (c .before .before .before .before .before .before .before .before .before .before .before .before .before .before .before .args .tokens .now) (c .before .before .before .before .before .before .before .before .before .before .before .before .before .before .before .args .allowance) (c .before .before .before .before .before .before .before .before .before .before .before .before .before .before .before .pre) (c .before .before .before .before .before .before .before .before .before .before .before .before .before .before .before .args .tree .now) (c .before .before .before .before .before .before .before .before .before .before .before .before .expect .ensures) (c .before .before .before .before .before .before .before .before .before .before .inside .given .1) (c .before .before .before .before .before .before .before .stmts .ensures blank) (c .before .before .before .body .given .1) in (z .inside, z .closed .few)
 
 enum-known-e-3 : tie.Need-enum-known-e-3
 enum-known-e-3 c = search needs
@@ -38,7 +38,7 @@ peek-span-requires : tie.Need-peek-span-requires
 peek-span-requires c κs = search needs
 
 peek-span-requires-2 : tie.Need-peek-span-requires-2
-peek-span-requires-2 c κs = filled-ready [] (c .before .before .before .before .before .before .before .before .before .before .before .before .before .before .before .before .before .before .before .before .args .tokens .now) (c .before .before .before .before .before .before .before .before .before .before .before .before .before .before .before .before .before .before .before .before .args .allowance) (c .before .before .before .before .before .before .before .before .before .before .before .before .before .before .before .before .before .before .before .before .pre) (c .before .before .before .before .before .before .before .before .before .before .before .before .before .before .before .before .before .before .before .before .args .tree .now) (c .before .before .before .before .before .before .before .before .before .before .before .before .before .before .before .before .before .expect .ensures) (c .before .before .before .before .before .before .before .before .before .before .before .before .before .before .before .inside .given .1) (c .before .before .before .before .before .before .before .before .before .before .before .before .stmts .ensures []) (c .before .before .before .before .before .before .before .before .body .given .1) .inside
+peek-span-requires-2 c κs = filled-ready blank (c .before .before .before .before .before .before .before .before .before .before .before .before .before .before .before .before .before .before .before .before .args .tokens .now) (c .before .before .before .before .before .before .before .before .before .before .before .before .before .before .before .before .before .before .before .before .args .allowance) (c .before .before .before .before .before .before .before .before .before .before .before .before .before .before .before .before .before .before .before .before .pre) (c .before .before .before .before .before .before .before .before .before .before .before .before .before .before .before .before .before .before .before .before .args .tree .now) (c .before .before .before .before .before .before .before .before .before .before .before .before .before .before .before .before .before .expect .ensures) (c .before .before .before .before .before .before .before .before .before .before .before .before .before .before .before .inside .given .1) (c .before .before .before .before .before .before .before .before .before .before .before .before .stmts .ensures blank) (c .before .before .before .before .before .before .before .before .body .given .1) .inside
 
 join-requires : tie.Need-join-requires
 join-requires c κs = search needs

@@ -1,5 +1,6 @@
 -- `quanta_item::decl::contract_item` meets its contract.
 -- Assumes nothing.
+use Rattle.quanta_grammar.specs.Refine.{text}
 use mathlib.Core.Path.{_∙_}
 use Rattle.quanta_cursor.proofs.Meeting.{failed}
 use Rattle.quanta_item.proofs.Items.{no-item}
@@ -35,7 +36,7 @@ same-length : tie.Need-same-length
 same-length c = search needs
 
 returns : tie.Need-returns
-returns c = c .before .before .asset-decl .ensures (c .before .before .before .before .before .before .before .before .before .args .src .now) (c .before .before .before .before .before .before .before .before .before .args .allowance)
+returns c = c .before .before .asset-decl .ensures (text (c .before .before .before .before .before .before .before .before .before .args .edition) (c .before .before .before .before .before .before .before .before .before .args .src .now)) (c .before .before .before .before .before .before .before .before .before .args .allowance)
 
 same-length-2 : tie.Need-same-length-2
 same-length-2 c = search needs
@@ -47,13 +48,13 @@ same-length-3 : tie.Need-same-length-3
 same-length-3 c = search needs
 
 returns-3 : tie.Need-returns-3
-returns-3 c = c .before .before .genesis-block .ensures (c .before .before .before .before .before .before .before .before .before .args .src .now)
+returns-3 c = c .before .before .genesis-block .ensures (text (c .before .before .before .before .before .before .before .before .before .args .edition) (c .before .before .before .before .before .before .before .before .before .args .src .now))
 
 same-length-4 : tie.Need-same-length-4
 same-length-4 c = search needs
 
 returns-4 : tie.Need-returns-4
-returns-4 c = c .before .before .invariant-decl .ensures (c .before .before .before .before .before .before .before .before .before .args .src .now)
+returns-4 c = c .before .before .invariant-decl .ensures (text (c .before .before .before .before .before .before .before .before .before .args .edition) (c .before .before .before .before .before .before .before .before .before .args .src .now))
 
 same-length-5 : tie.Need-same-length-5
 same-length-5 c = search needs
@@ -68,7 +69,7 @@ returns-6 : tie.Need-returns-6
 returns-6 c = search needs
 
 returns-7 : tie.Need-returns-7
-returns-7 c = failed (no-item (c .before .before .before .before .before .before .args .src .now) (c .before .before .before .before .before .before .args .tokens .now) (c .before .before .before .before .before .before .args .allowance) (c .before .before .before .before .before .before .pre) (λ z. c .before .match .rest .0 .0 .0 .0 .0 .1 (c .before .before .peek .ensures ∙ z), (λ z. c .before .match .rest .0 .0 .0 .0 .1 (c .before .before .peek .ensures ∙ z), (λ z. c .before .match .rest .0 .0 .0 .1 (c .before .before .peek .ensures ∙ z), (λ z. c .before .match .rest .0 .0 .1 (c .before .before .peek .ensures ∙ z), (λ z. c .before .match .rest .0 .1 (c .before .before .peek .ensures ∙ z), (λ z. c .before .match .rest .1 (c .before .before .peek .ensures ∙ z), tt)))))) (c .err .ensures))
+returns-7 c = failed (no-item (text (c .before .before .before .before .before .before .args .edition) (c .before .before .before .before .before .before .args .src .now)) (c .before .before .before .before .before .before .args .tokens .now) (c .before .before .before .before .before .before .args .allowance) (c .before .before .before .before .before .before .pre) (λ z. c .before .match .rest .0 .0 .0 .0 .0 .1 (c .before .before .peek .ensures ∙ z), (λ z. c .before .match .rest .0 .0 .0 .0 .1 (c .before .before .peek .ensures ∙ z), (λ z. c .before .match .rest .0 .0 .0 .1 (c .before .before .peek .ensures ∙ z), (λ z. c .before .match .rest .0 .0 .1 (c .before .before .peek .ensures ∙ z), (λ z. c .before .match .rest .0 .1 (c .before .before .peek .ensures ∙ z), (λ z. c .before .match .rest .1 (c .before .before .peek .ensures ∙ z), tt)))))) (c .err .ensures))
 
 pub contract-item-spec : {M : Type 1} → statement M
 contract-item-spec =

@@ -1,7 +1,6 @@
 -- `quanta_item::decl::genesis_block` meets its contract.
 -- Assumes nothing.
 use mathlib.Core.Path.{refl, sym}
-use mathlib.Core.List.{[]}
 use Rattle.grammar.specs.Records.{none}
 use Rattle.quanta_grammar.specs.NodeKind.{nodeCode, genesis-node}
 use Rattle.quanta_cursor.proofs.Meeting.{took, failed}
@@ -10,12 +9,13 @@ use Rattle.quanta_item.proofs.Items.{genesis-key, by-itself}
 use borrow.Author.Needs.{needs}
 use Rattle.quanta_item.proofs.decl.genesis_block.Statement.{statement}
 use Rattle.quanta_item.proofs.decl.genesis_block.Tie as tie
+use Rattle.quanta_grammar.specs.Refine.{blank}
 
 bump-requires : tie.Need-bump-requires
 bump-requires c κs = search needs
 
 block-requires : tie.Need-block-requires
-block-requires c κs = (genesis-key [] (c .before .before .before .before .args .tokens .now) (c .before .before .before .before .args .allowance) (c .before .before .before .before .pre .0) (c .bump .ensures) (c .before .before .before .before .args .tree .now) (c .before .before .before .before .pre .1)) .ready
+block-requires c κs = (genesis-key blank (c .before .before .before .before .args .tokens .now) (c .before .before .before .before .args .allowance) (c .before .before .before .before .pre .0) (c .bump .ensures) (c .before .before .before .before .args .tree .now) (c .before .before .before .before .pre .1)) .ready
 
 enum-known-e : tie.Need-enum-known-e
 enum-known-e c = search needs
@@ -24,7 +24,7 @@ enum-known-body : tie.Need-enum-known-body
 enum-known-body c = search needs
 
 put-decl-requires : tie.Need-put-decl-requires
-put-decl-requires c κs = (block-ready [] (c .before .before .before .before .before .before .before .before .before .before .before .args .allowance) ((genesis-key [] (c .before .before .before .before .before .before .before .before .before .before .before .args .tokens .now) (c .before .before .before .before .before .before .before .before .before .before .before .args .allowance) (c .before .before .before .before .before .before .before .before .before .before .before .pre .0) (c .before .before .before .before .before .before .before .bump .ensures) (c .before .before .before .before .before .before .before .before .before .before .before .args .tree .now) (c .before .before .before .before .before .before .before .before .before .before .before .pre .1)) .ready) (block-of (c .before .before .body .given .1) (c .before .before .before .before .before .before .block .ensures [])), c .before .before .before .before .before .before .before .before .before .before .before .pre .0 .inside)
+put-decl-requires c κs = (block-ready blank (c .before .before .before .before .before .before .before .before .before .before .before .args .allowance) ((genesis-key blank (c .before .before .before .before .before .before .before .before .before .before .before .args .tokens .now) (c .before .before .before .before .before .before .before .before .before .before .before .args .allowance) (c .before .before .before .before .before .before .before .before .before .before .before .pre .0) (c .before .before .before .before .before .before .before .bump .ensures) (c .before .before .before .before .before .before .before .before .before .before .before .args .tree .now) (c .before .before .before .before .before .before .before .before .before .before .before .pre .1)) .ready) (block-of (c .before .before .body .given .1) (c .before .before .before .before .before .before .block .ensures blank)), c .before .before .before .before .before .before .before .before .before .before .before .pre .0 .inside)
 
 same-length : tie.Need-same-length
 same-length c = search needs

@@ -1,7 +1,6 @@
 -- `quanta_item::decl::invariant_decl` meets its contract.
 -- Assumes nothing.
 use mathlib.Core.Path.{refl}
-use mathlib.Core.List.{[]}
 use Rattle.quanta_grammar.specs.NodeKind.{nodeCode, invariant-node}
 use Rattle.quanta_cursor.proofs.Places.{ready-small}
 use Rattle.quanta_cursor.proofs.Meeting.{failed}
@@ -10,12 +9,13 @@ use Rattle.quanta_item.proofs.Items.{invariant-key, unsaid, said, semi-
 use borrow.Author.Needs.{needs}
 use Rattle.quanta_item.proofs.decl.invariant_decl.Statement.{statement}
 use Rattle.quanta_item.proofs.decl.invariant_decl.Tie as tie
+use Rattle.quanta_grammar.specs.Refine.{blank}
 
 bump-requires : tie.Need-bump-requires
 bump-requires c κs = search needs
 
 expr-requires : tie.Need-expr-requires
-expr-requires c κs = (invariant-key [] (c .before .before .before .before .args .tokens .now) (c .before .before .before .before .args .allowance) (c .before .before .before .before .pre .0) (c .bump .ensures) (c .before .before .before .before .args .tree .now) (c .before .before .before .before .pre .1)) .ready
+expr-requires c κs = (invariant-key blank (c .before .before .before .before .args .tokens .now) (c .before .before .before .before .args .allowance) (c .before .before .before .before .pre .0) (c .bump .ensures) (c .before .before .before .before .args .tree .now) (c .before .before .before .before .pre .1)) .ready
 
 enum-known-e : tie.Need-enum-known-e
 enum-known-e c = search needs
@@ -27,7 +27,7 @@ peek-span-requires : tie.Need-peek-span-requires
 peek-span-requires c κs = search needs
 
 close-semi-requires : tie.Need-close-semi-requires
-close-semi-requires c κs = ((said (invariant-key [] (c .before .before .before .before .before .before .before .before .before .before .before .before .before .before .args .tokens .now) (c .before .before .before .before .before .before .before .before .before .before .before .before .before .before .args .allowance) (c .before .before .before .before .before .before .before .before .before .before .before .before .before .before .pre .0) (c .before .before .before .before .before .before .before .before .before .before .bump .ensures) (c .before .before .before .before .before .before .before .before .before .before .before .before .before .before .args .tree .now) (c .before .before .before .before .before .before .before .before .before .before .before .before .before .before .pre .1)) (c .before .before .before .before .before .before .before .before .before .expr .ensures []) (c .before .before .before .before .before .value .given .1)) .ready, ready-small (c .before .before .before .before .before .before .before .before .before .before .before .before .before .before .pre .0))
+close-semi-requires c κs = ((said (invariant-key blank (c .before .before .before .before .before .before .before .before .before .before .before .before .before .before .args .tokens .now) (c .before .before .before .before .before .before .before .before .before .before .before .before .before .before .args .allowance) (c .before .before .before .before .before .before .before .before .before .before .before .before .before .before .pre .0) (c .before .before .before .before .before .before .before .before .before .before .bump .ensures) (c .before .before .before .before .before .before .before .before .before .before .before .before .before .before .args .tree .now) (c .before .before .before .before .before .before .before .before .before .before .before .before .before .before .pre .1)) (c .before .before .before .before .before .before .before .before .before .expr .ensures blank) (c .before .before .before .before .before .value .given .1)) .ready, ready-small (c .before .before .before .before .before .before .before .before .before .before .before .before .before .before .pre .0))
 
 same-length : tie.Need-same-length
 same-length c = search needs

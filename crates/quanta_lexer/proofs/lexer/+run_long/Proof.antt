@@ -15,7 +15,7 @@ use Rattle.quanta_lexer.proofs.lexer.+run_long.{statement}
 use Rattle.quanta_lexer.proofs.lexer.+run_long.Tie.{close}
 
 abbrev μ-run-long : Measures 3 run-long-kinds.ps ℕ
-μ-run-long κs a = cond (a .1 .1 .1 .0) 1 0
+μ-run-long κs a = cond (a .1 .1 .1 .1 .0) 1 0
 
 abbrev run-long-at : ℕ → In 3 run-long-kinds.ps
 run-long-at t = and 3 run-long-kinds.ps (is 3 run-long-kinds.ps μ-run-long t) run-long.Pre

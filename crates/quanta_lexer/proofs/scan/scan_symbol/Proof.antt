@@ -1,114 +1,120 @@
+-- `quanta_lexer::scan::scan_symbol` meets its contract: the tests in turn choose as `symbolAt` does.
+-- Assumes nothing.
+use Prim.Native.Nat.{_+_}
+use mathlib.Core.Path.{sym, _∙_}
+use native.Mathlib.Omega.{arith}
+use lib.ListN.{getD}
+use lib.Dec.{eqb}
 use borrow.Author.Tests.{eq-eqb, ne-eqb}
-use Rattle.quanta_lexer.specs.Scan.{symbolAt, choose}
+use Rattle.quanta_token.proofs.BoolLaws.{both}
+use Rattle.quanta_lexer.specs.Scan.{dateAt, symbolAt, choose}
+use Rattle.quanta_lexer.proofs.ScanLaws.{date-inside}
 use borrow.Author.Needs.{needs}
 use Rattle.quanta_lexer.proofs.scan.scan_symbol.Statement.{statement}
 use Rattle.quanta_lexer.proofs.scan.scan_symbol.Tie as tie
 
-shared-slice-read-c : tie.Need-shared-slice-read-c
-shared-slice-read-c c = search needs
-
-is-date-after-requires : tie.Need-is-date-after-requires
-is-date-after-requires c κs = search needs
-
-add-token : tie.Need-add-token
-add-token c = search needs
-
-token-requires : tie.Need-token-requires
-token-requires c κs = search needs
+is-dated-requires : tie.Need-is-dated-requires
+is-dated-requires c κs =
+    let i : tie.Then1 = search in
+    let s : tie.Start = search in
+    let src = s .args .src .now in
+    let k = s .args .start in
+    let d = sym (i .before .is-date-after .ensures) ∙ i .if1 .taken in
+    omega (arith, date-inside src (k + 1) (both (eqb (getD src k 0) 0x40) (dateAt src (k + 1)) d .1))
 
 returns : tie.Need-returns
 unfolding symbolAt choose
-returns c = rw (← c .before .before .is-date-after .ensures, c .before .if1 .taken) (c .token .ensures)
-
-add-peek : tie.Need-add-peek
-add-peek c = search needs
-
-peek-requires : tie.Need-peek-requires
-peek-requires c κs = search needs
-
-pair-kind-requires : tie.Need-pair-kind-requires
-pair-kind-requires c κs = search needs
-
-add-token-2 : tie.Need-add-token-2
-add-token-2 c = search needs
-
-token-requires-2 : tie.Need-token-requires-2
-token-requires-2 c κs = search needs
+returns c =
+    let i : tie.Then1 = search in
+    let j : tie.Then2 = search in
+    rw (← i .before .is-date-after .ensures, i .if1 .taken, ← j .before .is-dated .ensures, j .if2 .taken)
+    (c .token .ensures)
 
 returns-2 : tie.Need-returns-2
 unfolding symbolAt choose
 returns-2 c =
-    rw (
-      ← c .before .before .before .before .before .is-date-after .ensures,
-      c .before .before .before .before .if1 .left,
-      ← c .before .before .before .peek .ensures,
-      ← c .before .before .pair-kind .ensures,
-      ne-eqb _ _ (c .before .if2 .taken),
-    )
-    (c .token2 .ensures)
-
-single-kind-requires : tie.Need-single-kind-requires
-single-kind-requires c κs = search needs
-
-add-token-3 : tie.Need-add-token-3
-add-token-3 c = search needs
-
-token-requires-3 : tie.Need-token-requires-3
-token-requires-3 c κs = search needs
+    let i : tie.Then1 = search in
+    let j : tie.Else2 = search in
+    rw (← i .before .is-date-after .ensures, i .if1 .taken, ← j .before .is-dated .ensures, j .if2 .left)
+    (c .refused .ensures)
 
 returns-3 : tie.Need-returns-3
 unfolding symbolAt choose
 returns-3 c =
+    let i : tie.Else1 = search in
+    let p : tie.After-pair-kind = search in
+    let j : tie.Then3 = search in
     rw (
-      ← c .before .before .before .before .before .before .before .is-date-after .ensures,
-      c .before .before .before .before .before .before .if1 .left,
-      ← c .before .before .before .before .before .peek .ensures,
-      ← c .before .before .before .before .pair-kind .ensures,
-      eq-eqb _ _ (c .before .before .before .if2 .left),
-      ← c .before .before .single-kind .ensures,
-      ne-eqb _ _ (c .before .if3 .taken),
+      ← i .before .is-date-after .ensures,
+      i .if1 .left,
+      ← p .before .peek .ensures,
+      ← p .pair-kind .ensures,
+      ne-eqb _ _ (j .if3 .taken),
     )
-    (c .token3 .ensures)
-
-add-refused : tie.Need-add-refused
-add-refused c = search needs
-
-refused-requires : tie.Need-refused-requires
-refused-requires c κs = search needs
+    (c .token2 .ensures)
 
 returns-4 : tie.Need-returns-4
 unfolding symbolAt choose
 returns-4 c =
+    let i : tie.Else1 = search in
+    let p : tie.After-pair-kind = search in
+    let j : tie.Else3 = search in
+    let k : tie.After-single-kind = search in
+    let l : tie.Then4 = search in
     rw (
-      ← c .before .before .before .before .before .before .before .is-date-after .ensures,
-      c .before .before .before .before .before .before .if1 .left,
-      ← c .before .before .before .before .before .peek .ensures,
-      ← c .before .before .before .before .pair-kind .ensures,
-      eq-eqb _ _ (c .before .before .before .if2 .left),
-      ← c .before .before .single-kind .ensures,
-      eq-eqb _ _ (c .before .if3 .left),
+      ← i .before .is-date-after .ensures,
+      i .if1 .left,
+      ← p .before .peek .ensures,
+      ← p .pair-kind .ensures,
+      eq-eqb _ _ (j .if3 .left),
+      ← k .single-kind .ensures,
+      ne-eqb _ _ (l .if4 .taken),
     )
-    (c .refused .ensures)
+    (c .token3 .ensures)
+
+returns-5 : tie.Need-returns-5
+unfolding symbolAt choose
+returns-5 c =
+    let i : tie.Else1 = search in
+    let p : tie.After-pair-kind = search in
+    let j : tie.Else3 = search in
+    let k : tie.After-single-kind = search in
+    let l : tie.Else4 = search in
+    rw (
+      ← i .before .is-date-after .ensures,
+      i .if1 .left,
+      ← p .before .peek .ensures,
+      ← p .pair-kind .ensures,
+      eq-eqb _ _ (j .if3 .left),
+      ← k .single-kind .ensures,
+      eq-eqb _ _ (l .if4 .left),
+    )
+    (c .refused2 .ensures)
 
 pub scan-symbol-spec : {M : Type 1} → statement M
 scan-symbol-spec =
     tie.close
     (tie.spec
-    shared-slice-read-c
-    is-date-after-requires
-    add-token
-    token-requires
+    (λ c. search needs)
+    (λ c κs. search needs)
+    (λ c. search needs)
+    is-dated-requires
+    (λ c. search needs)
+    (λ c κs. search needs)
     returns
-    add-peek
-    peek-requires
-    pair-kind-requires
-    add-token-2
-    token-requires-2
+    (λ c. search needs)
+    (λ c κs. search needs)
     returns-2
-    single-kind-requires
-    add-token-3
-    token-requires-3
+    (λ c. search needs)
+    (λ c κs. search needs)
+    (λ c κs. search needs)
+    (λ c. search needs)
+    (λ c κs. search needs)
     returns-3
-    add-refused
-    refused-requires
-    returns-4)
+    (λ c κs. search needs)
+    (λ c. search needs)
+    (λ c κs. search needs)
+    returns-4
+    (λ c. search needs)
+    (λ c κs. search needs)
+    returns-5)

@@ -7,7 +7,6 @@ use borrow.Author.Tests.{not-true, not-false}
 use Rattle.quanta_lexer.specs.Trivia.{triviaEnd}
 use Rattle.quanta_token.proofs.RunLaws.{end-bounds}
 use Rattle.quanta_lexer.proofs.TriviaLaws.{turn-stop, turn-more}
-use borrow.Author.Needs.{needs}
 use Rattle.quanta_lexer.proofs.scan.skip_trivia.Statement.{statement}
 use Rattle.quanta_lexer.proofs.scan.skip_trivia.Tie as tie
 

@@ -9,6 +9,7 @@ use Rattle.quanta_param.proofs.Fields.{default-missing, default-past, d
 use borrow.Author.Needs.{needs}
 use Rattle.quanta_param.proofs.decl.default.Statement.{statement}
 use Rattle.quanta_param.proofs.decl.default.Tie as tie
+use Rattle.quanta_grammar.specs.Refine.{blank}
 
 peek-requires : tie.Need-peek-requires
 peek-requires c κs = search needs
@@ -20,7 +21,7 @@ bump-requires : tie.Need-bump-requires
 bump-requires c κs = search needs
 
 expr-requires : tie.Need-expr-requires
-expr-requires c κs = default-past [] (c .before .before .before .before .before .before .before .before .args .tokens .now) (c .before .before .before .before .before .before .before .before .args .allowance) (c .before .before .before .before .before .before .before .before .pre) fresh (sym (c .before .before .before .peek .ensures) ∙ c .before .before .if1 .left) (c .bump .ensures)
+expr-requires c κs = default-past blank (c .before .before .before .before .before .before .before .before .args .tokens .now) (c .before .before .before .before .before .before .before .before .args .allowance) (c .before .before .before .before .before .before .before .before .pre) fresh (sym (c .before .before .before .peek .ensures) ∙ c .before .before .if1 .left) (c .bump .ensures)
 
 enum-known-e : tie.Need-enum-known-e
 enum-known-e c = search needs

@@ -8,6 +8,7 @@ use Rattle.quanta_param.proofs.Params.{signer-missing, signer-past, sig
 use borrow.Author.Needs.{needs}
 use Rattle.quanta_param.proofs.decl.signed_by.Statement.{statement}
 use Rattle.quanta_param.proofs.decl.signed_by.Tie as tie
+use Rattle.quanta_grammar.specs.Refine.{blank}
 
 peek-requires : tie.Need-peek-requires
 peek-requires c κs = search needs
@@ -19,7 +20,7 @@ bump-requires : tie.Need-bump-requires
 bump-requires c κs = search needs
 
 expect-requires : tie.Need-expect-requires
-expect-requires c κs = let z = signer-past [] (c .before .before .before .before .before .before .before .args .tokens .now) 0 (c .before .before .before .before .before .before .before .pre) fresh (sym (c .before .before .peek .ensures) ∙ c .before .if1 .left) (c .bump .ensures) in (z .inside, z .closed .few)
+expect-requires c κs = let z = signer-past blank (c .before .before .before .before .before .before .before .args .tokens .now) 0 (c .before .before .before .before .before .before .before .pre) fresh (sym (c .before .before .peek .ensures) ∙ c .before .if1 .left) (c .bump .ensures) in (z .inside, z .closed .few)
 
 enum-known-e : tie.Need-enum-known-e
 enum-known-e c = search needs
@@ -28,7 +29,7 @@ enum-known-next : tie.Need-enum-known-next
 enum-known-next c = search needs
 
 expect-ident-requires : tie.Need-expect-ident-requires
-expect-ident-requires c κs = by-ready [] (c .before .before .before .before .before .before .before .before .before .before .before .before .args .tokens .now) 0 (c .before .before .before .before .before .before .before .before .before .before .before .before .pre) fresh (sym (c .before .before .before .before .before .before .before .peek .ensures) ∙ c .before .before .before .before .before .before .if1 .left) (c .before .before .before .before .before .bump .ensures) (c .before .before .before .before .expect .ensures) (c .before .before .next .given .1)
+expect-ident-requires c κs = by-ready blank (c .before .before .before .before .before .before .before .before .before .before .before .before .args .tokens .now) 0 (c .before .before .before .before .before .before .before .before .before .before .before .before .pre) fresh (sym (c .before .before .before .before .before .before .before .peek .ensures) ∙ c .before .before .before .before .before .before .if1 .left) (c .before .before .before .before .before .bump .ensures) (c .before .before .before .before .expect .ensures) (c .before .before .next .given .1)
 
 enum-known-e-2 : tie.Need-enum-known-e-2
 enum-known-e-2 c = search needs

@@ -1,10 +1,10 @@
 -- `quanta_parser::whole::whole_expr` meets its contract.
 -- Assumes nothing.
-use mathlib.Core.List.{[]}
 use Rattle.quanta_parser.proofs.Wholes.{expr-call, whole-bad, whole-inside, whole-more, whole-met}
 use borrow.Author.Needs.{needs}
 use Rattle.quanta_parser.proofs.whole.whole_expr.Statement.{statement}
 use Rattle.quanta_parser.proofs.whole.whole_expr.Tie as tie
+use Rattle.quanta_grammar.specs.Refine.{blank}
 
 expr-requires : tie.Need-expr-requires
 expr-requires c κs = c .before .before .before .pre
@@ -16,7 +16,7 @@ enum-known-expr : tie.Need-enum-known-expr
 enum-known-expr c = search needs
 
 expect-eof-requires : tie.Need-expect-eof-requires
-expect-eof-requires c κs = whole-inside expr-call [] (c .before .before .before .before .before .before .before .before .before .before .pre) (c .before .before .before .before .before .before .expr .ensures []) (c .before .before .expr2 .given .1)
+expect-eof-requires c κs = whole-inside expr-call blank (c .before .before .before .before .before .before .before .before .before .before .pre) (c .before .before .before .before .before .before .expr .ensures blank) (c .before .before .expr2 .given .1)
 
 enum-known-e-2 : tie.Need-enum-known-e-2
 enum-known-e-2 c = search needs

@@ -1,10 +1,10 @@
 -- `quanta_parser::whole::whole_stmt` meets its contract.
 -- Assumes nothing.
-use mathlib.Core.List.{[]}
 use Rattle.quanta_parser.proofs.Wholes.{stmt-call, whole-bad, whole-inside, whole-more, whole-met}
 use borrow.Author.Needs.{needs}
 use Rattle.quanta_parser.proofs.whole.whole_stmt.Statement.{statement}
 use Rattle.quanta_parser.proofs.whole.whole_stmt.Tie as tie
+use Rattle.quanta_grammar.specs.Refine.{blank}
 
 statement-requires : tie.Need-statement-requires
 statement-requires c κs = c .before .before .before .pre
@@ -16,7 +16,7 @@ enum-known-stmt : tie.Need-enum-known-stmt
 enum-known-stmt c = search needs
 
 expect-eof-requires : tie.Need-expect-eof-requires
-expect-eof-requires c κs = whole-inside stmt-call [] (c .before .before .before .before .before .before .before .before .before .before .pre) (c .before .before .before .before .before .before .statement .ensures []) (c .before .before .stmt .given .1)
+expect-eof-requires c κs = whole-inside stmt-call blank (c .before .before .before .before .before .before .before .before .before .before .pre) (c .before .before .before .before .before .before .statement .ensures blank) (c .before .before .stmt .given .1)
 
 enum-known-e-2 : tie.Need-enum-known-e-2
 enum-known-e-2 c = search needs

@@ -1,8 +1,8 @@
 -- `quanta_stmt::stmt::guard_stmt` meets its contract.
 -- Assumes nothing.
-use mathlib.Core.List.{[]}
 use Rattle.quanta_token.specs.TokenKind.{code, Guard}
 use Rattle.quanta_grammar.specs.Productions.{expr}
+use Rattle.quanta_grammar.specs.Refine.{blank}
 use Rattle.quanta_cursor.proofs.Places.{past-as, ready-past, ready-small, took-ready}
 use Rattle.quanta_cursor.proofs.Meeting.{took-of, failed-of, failed}
 use Rattle.quanta_stmt.proofs.Keywords.{guard-bad, guard-met}
@@ -26,7 +26,7 @@ peek-span-requires : tie.Need-peek-span-requires
 peek-span-requires c κs = search needs
 
 close-semi-requires : tie.Need-close-semi-requires
-close-semi-requires c κs = (took-ready [] expr (c .before .before .before .before .before .before .before .before .before .before .before .before .before .before .args .allowance) (ready-past (c .before .before .before .before .before .before .before .before .before .before .before .before .before .before .pre .0) (past-as (code Guard) (λ u. u) (c .before .before .before .before .before .before .before .before .before .before .before .before .before .before .pre .0 .closed) (c .before .before .before .before .before .before .before .before .before .before .before .before .before .before .pre .0 .inside) (c .before .before .before .before .before .before .before .before .before .before .before .before .before .before .pre .1)) (c .before .before .before .before .before .before .before .before .before .before .bump .ensures)) (took-of (c .before .before .before .before .before .value .given .1) (c .before .before .before .before .before .before .before .before .before .expr .ensures [])), ready-small (c .before .before .before .before .before .before .before .before .before .before .before .before .before .before .pre .0))
+close-semi-requires c κs = (took-ready blank expr (c .before .before .before .before .before .before .before .before .before .before .before .before .before .before .args .allowance) (ready-past (c .before .before .before .before .before .before .before .before .before .before .before .before .before .before .pre .0) (past-as (code Guard) (λ u. u) (c .before .before .before .before .before .before .before .before .before .before .before .before .before .before .pre .0 .closed) (c .before .before .before .before .before .before .before .before .before .before .before .before .before .before .pre .0 .inside) (c .before .before .before .before .before .before .before .before .before .before .before .before .before .before .pre .1)) (c .before .before .before .before .before .before .before .before .before .before .bump .ensures)) (took-of (c .before .before .before .before .before .value .given .1) (c .before .before .before .before .before .before .before .before .before .expr .ensures blank)), ready-small (c .before .before .before .before .before .before .before .before .before .before .before .before .before .before .pre .0))
 
 same-length : tie.Need-same-length
 same-length c = search needs
