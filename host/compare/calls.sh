@@ -1,6 +1,6 @@
 #!/usr/bin/env bash
-# The whole comparison of the five proved calls, in both editions, with the original and what is made of its answers: answers and
-# every word of both buffers, which hold rubbish before each call. Some 40 million cases, a quarter of an hour or more.
+# The whole comparison of the five proved calls, in both editions, with the original and what is made of its answers:
+# answers and every word of both buffers, which hold rubbish before each call. Some 40 million cases, ten minutes or more.
 #   calls.sh             through the desk's archive
 #   calls.sh terminal    through the signing terminal's
 # Prints each command with its count and how far it is; the last line is 'N cases, D disagreements'. Exit status 1 where any disagree.
