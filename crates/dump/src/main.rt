@@ -1,4 +1,6 @@
 // Reads a program of at most 1,024 bytes from standard input, in edition 1 and with no word barred, and prints the answer.
+#![tactic(auto)]
+
 use quanta::export::quanta_parse;
 
 const LONGEST: usize = 1024;

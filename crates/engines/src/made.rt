@@ -13,7 +13,7 @@ const TREE: usize = 1200;
 
 // A list, and what it is read with: its number of tokens and their seed; the words of the tree, the first token, the
 // number of the first record and the allowance.
-#[derive(Drop)]
+#[derive(Clone, Copy)]
 pub struct Case {
     pub count: usize,
     pub room: usize,

@@ -17,7 +17,7 @@ pub const LISTS: u32 = 100000;
 const STEP: u32 = 2654435769;
 
 // What comes of a list: the same from both, with the number of the refusal, or 0 for an expression; or not the same.
-#[derive(Drop)]
+#[derive(Clone, Copy)]
 enum Came {
     Same(u32),
     Different,

@@ -15,7 +15,7 @@ use quanta_token::edition::{Numbered, edition_of};
 
 // Line and column, counted from 1; 0 and 0 where there is no such place.
 #[repr(C)]
-#[derive(Drop)]
+#[derive(Clone, Copy)]
 pub struct Place {
     pub line: u64,
     pub column: u64,

@@ -1,3 +1,5 @@
+#![tactic(auto)]
+
 pub mod node;
 pub mod parser;
 pub mod refusal;

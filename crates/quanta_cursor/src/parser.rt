@@ -18,22 +18,22 @@ use quanta_token::token;
 pub const MAX_DEPTH: usize = 64;
 
 // A token's number, counted from 0.
-#[derive(Drop)]
+#[derive(Clone, Copy)]
 pub struct TokenPos(pub usize);
 
 // A tree record's number, counted from 0.
-#[derive(Drop)]
+#[derive(Clone, Copy)]
 pub struct RecordNo(pub usize);
 
 // Byte offsets in the source.
-#[derive(Drop)]
+#[derive(Clone, Copy)]
 pub struct Span {
     pub start: u32,
     pub end: u32,
 }
 
 // A node that was read: the next token, the next record, its span and its kind.
-#[derive(Drop)]
+#[derive(Clone, Copy)]
 pub struct Node {
     pub at: TokenPos,
     pub no: RecordNo,
@@ -42,14 +42,14 @@ pub struct Node {
 }
 
 // Nodes side by side: the next token, the next record, and how many.
-#[derive(Drop)]
+#[derive(Clone, Copy)]
 pub struct Nodes {
     pub at: TokenPos,
     pub no: RecordNo,
     pub count: u32,
 }
 
-#[derive(Drop)]
+#[derive(Clone, Copy)]
 pub struct Refusal {
     pub number: u32,
     pub span: Span,
@@ -58,28 +58,28 @@ pub struct Refusal {
 }
 
 // The answer of a reader of one node.
-#[derive(Drop)]
+#[derive(Clone, Copy)]
 pub enum Parsed {
     Node(Node),
     Refused(Refusal),
 }
 
 // The answer of a reader of a list.
-#[derive(Drop)]
+#[derive(Clone, Copy)]
 pub enum Listed {
     Nodes(Nodes),
     Refused(Refusal),
 }
 
 // The position behind a token that was expected.
-#[derive(Drop)]
+#[derive(Clone, Copy)]
 pub enum Expected {
     Next(TokenPos),
     Refused(Refusal),
 }
 
 // What is left of the allowance.
-#[derive(Drop)]
+#[derive(Clone, Copy)]
 pub enum Entered {
     Left(usize),
     Refused(Refusal),

@@ -1,2 +1,4 @@
+#![tactic(auto)]
+
 pub mod expr;
 pub mod op;

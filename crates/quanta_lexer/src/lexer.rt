@@ -23,7 +23,7 @@ use quanta_words::words::check_words;
 use utf8::{Found, first_bad};
 
 // The number of tokens, or the first of the refusals 1 to 10 and 28.
-#[derive(Drop)]
+#[derive(Clone, Copy)]
 pub enum Read {
     Tokens(usize),
     Stopped {
@@ -34,7 +34,7 @@ pub enum Read {
 }
 
 // The whole answer: the number of tokens, a refusal 1 to 10 or 28, or 11 with the need.
-#[derive(Drop)]
+#[derive(Clone, Copy)]
 pub enum Answer {
     Accepted(usize),
     Refused {

@@ -18,11 +18,11 @@ use quanta_token::token::{DATE, INT, STR};
 use quanta_words::lookup::is_forbidden;
 
 // A byte's offset in the source.
-#[derive(Drop)]
+#[derive(Clone, Copy)]
 pub struct BytePos(pub usize);
 
 // A token, the end, or a refusal: what stands at a place.
-#[derive(Drop)]
+#[derive(Clone, Copy)]
 pub enum Lexed {
     Token {
         kind: u32,

@@ -1,4 +1,6 @@
 // The whole reading of bytes into tokens, in edition 1, for callers by C calling convention.
+#![tactic(auto)]
+
 ghost use Rattle.std.specs.Prelude.{◌≡◌, length};
 ghost use Rattle.quanta_token.specs.declared.edition.Edition.TheVariants.{One};
 ghost use Rattle.quanta_lexer.specs.Tokenizing.{tokenizing, token_words};
@@ -10,7 +12,7 @@ use quanta_token::edition::Edition;
 
 // The answer in document 01's numbers: number 0 is acceptance with so many tokens; need is for number 11.
 #[repr(C)]
-#[derive(Drop)]
+#[derive(Clone, Copy)]
 pub struct Outcome {
     pub number: u32,
     pub start: u32,

@@ -1,2 +1,4 @@
+#![tactic(auto)]
+
 pub mod program;
 pub mod whole;

@@ -22,7 +22,7 @@ use quanta_token::edition::Edition;
 use quanta_token::token;
 
 // Imports or contracts one after the other: the next token, the next record, how many, and the last one's span.
-#[derive(Drop)]
+#[derive(Clone, Copy)]
 pub struct Run {
     pub at: TokenPos,
     pub no: RecordNo,
@@ -31,7 +31,7 @@ pub struct Run {
 }
 
 // The answer of a reader of them.
-#[derive(Drop)]
+#[derive(Clone, Copy)]
 pub enum Ran {
     Run(Run),
     Refused(Refusal),

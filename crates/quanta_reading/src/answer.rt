@@ -4,7 +4,7 @@
 // What a call answers.
 use quanta_cursor::parser::Refusal;
 
-#[derive(Drop)]
+#[derive(Clone, Copy)]
 pub enum Answer {
     // So many token records and so many tree records.
     Accepted {

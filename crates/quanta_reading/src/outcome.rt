@@ -12,7 +12,7 @@ const UNKNOWN_EDITION: u32 = 29;
 
 // Number 0 is acceptance with the counts of records, another is the refusal; what it does not name is 0.
 #[repr(C)]
-#[derive(Drop)]
+#[derive(Clone, Copy)]
 pub struct Outcome {
     pub number: u32,
     pub start: u32,

@@ -1,4 +1,6 @@
 // An answer of a call in lines: `A`, tokens and records, then `N` and six numbers for each record; or `R` and six numbers.
+#![tactic(auto)]
+
 ghost use Rattle.std.specs.Prelude.{◌+◌, ◌≤◌, length};
 
 use quanta_reading::outcome::Outcome;

@@ -7,7 +7,7 @@ ghost use Rattle.quanta_source.specs.Source.{bare_at, barred_at, checked};
 ghost use Rattle.quanta_source.specs.Tests.{is_lead, is_bare, is_barred, is_mark, FineIn};
 
 // Nothing of it; or a CR without LF, or a barred character, and the offset of its first byte.
-#[derive(Drop)]
+#[derive(Clone, Copy)]
 pub enum Checked {
     Clean,
     CarriageReturn(usize),

@@ -3,7 +3,7 @@ ghost use Rattle.std.specs.Prelude.{◌≡◌};
 ghost use Rattle.quanta_text.specs.Places.{place_of};
 
 // Both counted from 1; 0 and 0 where there is no such place.
-#[derive(Drop)]
+#[derive(Clone, Copy)]
 pub struct LineColumn {
     pub line: usize,
     pub column: usize,

@@ -4,7 +4,7 @@ ghost use Rattle.quanta_text.specs.Texts.{text_of};
 
 use crate::text::text;
 
-#[derive(Drop)]
+#[derive(Clone, Copy)]
 pub struct Reader<'a> {
     pub src: &'a [u8],
 }

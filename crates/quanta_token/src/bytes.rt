@@ -136,7 +136,7 @@ pub fn class(chart: &[u8; 256], c: u8) -> u8
 }
 
 // What a run is made of.
-#[derive(Drop)]
+#[derive(Clone, Copy)]
 pub enum Run {
     Blanks,
     Word,

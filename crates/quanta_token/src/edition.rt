@@ -5,14 +5,14 @@
 ghost use Rattle.std.specs.Prelude.{◌≡◌};
 ghost use Rattle.quanta_token.specs.Editions.{edition_of};
 
-#[derive(Drop)]
+#[derive(Clone, Copy)]
 pub enum Edition {
     One,
     Two,
 }
 
 // What a number says.
-#[derive(Drop)]
+#[derive(Clone, Copy)]
 pub enum Numbered {
     Known(Edition),
     Unknown,

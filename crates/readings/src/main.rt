@@ -1,4 +1,6 @@
 // Replays a stored list of the original's answers from standard input over all five calls, and prints what differs.
+#![tactic(auto)]
+
 mod replay;
 mod report;
 

@@ -1,9 +1,11 @@
 // UTF-8 by RFC 3629: the first offset where no well-formed sequence starts.
+#![tactic(auto)]
+
 ghost use Rattle.std.specs.Prelude.{◌≡◌, [], ◌∷◌, ◌<◌, ◌≤◌, ◌+◌, leb, length, drop};
 ghost use Rattle.utf8.specs.Utf8.{◌to◌, tail, utf8_3, utf8_4, fits, form_len, char_len, first_bad};
 ghost use Rattle.utf8.specs.Block.{ascii, every};
 
-#[derive(Drop)]
+#[derive(Clone, Copy)]
 pub enum Found {
     At(usize),
     AllWell,
