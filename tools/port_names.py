@@ -4,7 +4,7 @@
 usage: python3 tools/port_names.py    at the top, once, right behind the kit's port.py; prints a row for each name: old, a tab, new
 
 It turns the names that the files of specs/ and proofs/ declare (names that only a function's own Proof.antt declares are made
-anew with that file), wherever they stand in those files, in clauses and `ghost use` items of src/, and in code spans of comments
+anew with that file; names that a file brings in from a library stay), wherever they stand in those files, in clauses and `ghost use` items of src/, and in code spans of comments
 and of the pages. In a Proof.antt what stands behind a dot is a name that Rattle makes, and stays.
 Where two names would fall together, the lemma gets `_lem`. Functions of src/, exported names, strings and inputs are not touched.
 """
@@ -95,10 +95,19 @@ def turn_spans(text, rows):
     return re.sub(r"`[^`\n]+`", lambda m: turn(m.group(0), rows), text)
 
 
+def from_library(text):
+    """The names that a file brings in from a library of the kit."""
+    names = set()
+    for module, items in re.findall(r"use ([^\s{]+)\.\{([^}]*)\}", text):
+        if not re.match(r"Rattle\.(?!std\b)", module):
+            names.update(item.split(" as ")[0].strip() for item in items.split(","))
+    return names
+
+
 def turn_proof(path, rows):
     text = read(path)
     walk = is_walk(path)
-    own = declared(path) if walk else frozenset()
+    own = (declared(path) if walk else set()) | from_library(text)
     out, at = [], 0
     for m in COMMENT.finditer(text):
         out += [turn(text[at : m.start()], rows, own, not walk), turn_comment(m.group(0), rows)]

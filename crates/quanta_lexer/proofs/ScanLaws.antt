@@ -2,7 +2,7 @@
 -- and a refusal's number are in range.
 use Prim.Native.Nat.{ℕ, zero, suc, ◌+◌, ◌≤◌, ◌<◌}
 use mathlib.Core.Path.{◌≡◌, refl, sym, ◌∙◌}
-use mathlib.Core.Bool.{Bool, true, false, ◌&&◌, ◌||◌, not, and_false, true≢false}
+use mathlib.Core.Bool.{Bool, true, false, ◌&&◌, ◌||◌, not, and-false, true≢false}
 use mathlib.Core.List.{List, [], ◌∷◌}
 use mathlib.Core.Logic.{◌⊎◌, inl, inr}
 use native.Mathlib.Omega.{arith}
@@ -101,12 +101,12 @@ unfolding date_at
 date_inside s i d =
     inside s (i + 9)
     (λ z.
-    let f : date_at s i ≡ false = simp (z, and_false) in
+    let f : date_at s i ≡ false = simp (z, and-false) in
     true≢false (sym d ∙ f))
 
 pair_none : (c : ℕ) → pair_kind c 0 ≡ no_kind
 unfolding pair_kind kind_if same
-pair_none c = simp and_false
+pair_none c = simp and-false
 
 -- only edition 2 asks for days
 asks : (ed : Edition) (s : List ℕ) (i : ℕ) → dated ed s i ≡ false → ed ≡ Two
@@ -189,4 +189,4 @@ pub no_dash : (s : List ℕ) (i : ℕ) → (get_or s (i + 4) 0 ≡ 0x2D → ⊥)
 unfolding date_at
 no_dash s i h =
     let year = digit (get_or s i 0) && digit (get_or s (i + 1) 0) && digit (get_or s (i + 2) 0) && digit (get_or s (i + 3) 0) in
-    rw (ne_eqb (get_or s (i + 4) 0) 0x2D h, and_false year)
+    rw (ne_eqb (get_or s (i + 4) 0) 0x2D h, and-false year)

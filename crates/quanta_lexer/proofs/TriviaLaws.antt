@@ -6,7 +6,7 @@ use mathlib.Core.List.{List, [], ◌∷◌}
 use native.Mathlib.Omega.{arith}
 use native.Mathlib.Nat.{le_of_lt}
 use lib.ListN.{drop, get_or, length, length-drop, get_or-eq_default}
-use lib.Seq.{drop_cons, drop-drop, get_or-drop}
+use lib.Seq.{drop-cons, drop-drop, get_or-drop}
 use lib.Dec.{eqb, ltb}
 use borrow.Author.Tests.{eqb-true, not-false, ltb-true, ltb-false}
 use Rattle.quanta_token.specs.Bytes.{blank, goes_on}
@@ -72,7 +72,7 @@ next s i = get_or-drop (suc i) s 0 0 ∙ ap (λ (n : ℕ). get_or s n 0) (omega 
 pub skip_open : (s : List ℕ) (i : ℕ) → i < length s → comment_at s i ≡ true → trivia_end s i ≡ trivia_end s (run_end (goes_on Comment) s i)
 unfolding trivia_end run_end
 skip_open s i h o =
-    let front : trivia false (drop i s) ≡ trivia true (drop i s) = rw (drop_cons s i 0 h) (opened _ _ (rw (next s i) o)) in
+    let front : trivia false (drop i s) ≡ trivia true (drop i s) = rw (drop-cons s i 0 h) (opened _ _ (rw (next s i) o)) in
     rw (← drop-drop (run (goes_on Comment) (drop i s)) i s) (omega (arith, comments (drop i s)))
 
 -- where neither a blank nor `//` stands at the front, nothing is skipped

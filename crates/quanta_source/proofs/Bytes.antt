@@ -1,13 +1,13 @@
 -- The barred characters by their bytes: `barred_by_bytes`.
 use Prim.Native.Nat.{ℕ, zero, suc, ◌+◌, ◌-◌, ◌*◌, ◌/◌, ◌%◌, ◌≤◌, ◌<◌}
 use mathlib.Core.Path.{◌≡◌, refl, ap, sym, ◌∙◌}
-use mathlib.Core.Bool.{Bool, true, false, not, cond, ◌&&◌, ◌||◌, and_assoc, or_assoc, and_true, and_false}
+use mathlib.Core.Bool.{Bool, true, false, not, cond, ◌&&◌, ◌||◌, and_assoc, or_assoc, and-true, and-false}
 use mathlib.Core.List.{List, [], ◌∷◌, ◌++◌}
 use native.Mathlib.Omega.{arith}
 use native.Mathlib.Numerals.{add-one}
 use native.Mathlib.Nat.{mul-add-div_right, mul-add-mod_self_right, div-eq_of_lt, mod-eq_of_lt}
 use lib.ListN.{length, get_or, drop, drop_of_length-le, get_or-eq_default}
-use lib.Seq.{drop_cons}
+use lib.Seq.{drop-cons}
 use lib.Dec.{eqb, ltb, leb}
 use borrow.Author.Tests.{lt-ltb, le-ltb, le-leb, lt-leb, ne_eqb, eqb-true, eqb-false, ltb-true, ltb-false, leb-true, leb-false}
 use Rattle.quanta_source.specs.Source.{count, ◌to◌, barred, encode, begins, stands_at, any, barred_at}
@@ -88,7 +88,7 @@ module _ (s : List ℕ) where
   front x xs i h = at (ltb i (length s)) refl
     where
       at : (b : Bool) → ltb i (length s) ≡ b → begins (x ∷ xs) (drop i s) ≡ (eqb (get_or s i 0) x && begins xs (drop (i + 1) s))
-      at true e = let l : i < length s = ltb-true _ _ e in rw (drop_cons s i 0, add-one)
+      at true e = let l : i < length s = ltb-true _ _ e in rw (drop-cons s i 0, add-one)
       at false e =
           let l : length s ≤ i = ltb-false _ _ e in
           rw (drop_of_length-le s l, get_or-eq_default s 0 l, ne_eqb 0 x (λ z. omega arith))
@@ -96,7 +96,7 @@ module _ (s : List ℕ) where
   stands_2 : (i A B : ℕ) → 2 ≤ A → A < 32 → B < 64 → stands_at s i (A * 64 + B) ≡ (eqb (get_or s i 0) (0xC0 + A) && eqb (get_or s (i + 1) 0) (0x80 + B))
   unfolding stands_at begins
   stands_2 i A B a b c =
-      rw (encode_2 A B a b c, front (0xC0 + A) ((0x80 + B) ∷ []) i (omega arith), front (0x80 + B) [] (i + 1) (omega arith), and_true)
+      rw (encode_2 A B a b c, front (0xC0 + A) ((0x80 + B) ∷ []) i (omega arith), front (0x80 + B) [] (i + 1) (omega arith), and-true)
 
   stands_3 :
       (i A B C : ℕ) →
@@ -108,7 +108,7 @@ module _ (s : List ℕ) where
   unfolding stands_at begins
   stands_3 i A B C a b c d =
       let next : i + 1 + 1 ≡ i + 2 = omega arith in
-      rw (encode_3 A B C a b c d, front (0xE0 + A) ((0x80 + B) ∷ (0x80 + C) ∷ []) i (omega arith), front (0x80 + B) ((0x80 + C) ∷ []) (i + 1) (omega arith), front (0x80 + C) [] (i + 1 + 1) (omega arith), and_true, next, and_assoc)
+      rw (encode_3 A B C a b c d, front (0xE0 + A) ((0x80 + B) ∷ (0x80 + C) ∷ []) i (omega arith), front (0x80 + B) ((0x80 + C) ∷ []) (i + 1) (omega arith), front (0x80 + C) [] (i + 1 + 1) (omega arith), and-true, next, and_assoc)
 
   -- the characters of a range in one row of 64 differ in their third byte
   row :
@@ -121,7 +121,7 @@ module _ (s : List ℕ) where
       any (stands_at s i) (count k (A * 4096 + B * 64 + C)) ≡
       (eqb (get_or s i 0) (0xE0 + A) && eqb (get_or s (i + 1) 0) (0x80 + B) && within (0x80 + C) (0x80 + D) (get_or s (i + 2) 0))
   unfolding any
-  row i A B zero C D a b c d h = rw (none (0x80 + C) (0x80 + D) (get_or s (i + 2) 0) (omega arith), and_false)
+  row i A B zero C D a b c d h = rw (none (0x80 + C) (0x80 + D) (get_or s (i + 2) 0) (omega arith), and-false)
   row i A B (suc k) C D a b c d h =
       let n = A * 4096 + B * 64 + C in
       let e = get_or s (i + 2) 0 in

@@ -9,14 +9,14 @@ use native.Mathlib.Numerals.{add-one}
 use native.Mathlib.Omega.{arith}
 use lib.Dec.{eqb, leb, ltb}
 use lib.ListN.{length, get_or, take, drop, set, length-drop, drop_of_length-le}
-use lib.Seq.{take_all, drop_cons, get_or-set_same, get_or-set_other}
+use lib.Seq.{take_all, drop-cons, get_or-set_same, get_or-set_other}
 use borrow.Author.Count.{below_more}
 use borrow.Author.Tests.{eq-eqb, ne_eqb, le-leb, lt-leb, lt-ltb, le-ltb, ltb-true}
 use Rattle.quanta_stored.specs.Runs.{run, fold}
 use Rattle.quanta_stored.specs.Lines.{BLANK, DASH, STAR, LIMIT, before, behind, digit_of, digits_of, grown, number_of, times_of, is_none, size_of, byte_at, Filled}
 
 next : (l : List ℕ) (i : ℕ) → i < length l → drop i l ≡ get_or l i 0 ∷ drop (i + 1) l
-next l i h = rw (add-one, drop_cons l i 0)
+next l i h = rw (add-one, drop-cons l i 0)
 
 at_end : (l : List ℕ) (i : ℕ) → length l ≤ i → drop i l ≡ []
 at_end l i h = drop_of_length-le l h

@@ -6,7 +6,7 @@ use mathlib.Core.List.{List, [], ◌∷◌, ◌++◌}
 use native.Mathlib.Omega.{arith}
 use native.Mathlib.Numerals.{add-one}
 use lib.ListN.{length, get_or, take, drop, length-take, length-drop, drop_of_length-le}
-use lib.Seq.{drop_cons, get_or-take, length-take-le, take-add}
+use lib.Seq.{drop-cons, get_or-take, length-take-le, take-add}
 use lib.Dec.{eqb, leb}
 use borrow.Author.Tests.{eq-eqb, ne_eqb, le-leb, lt-leb, leb-true, leb-false}
 use Rattle.quanta_text.specs.Places.{LF, feeds_in, since_from, placed, place_of}
@@ -25,7 +25,7 @@ module _ (s : List ℕ) (o i : ℕ) (h : i < o) where
   next : o ≤ length s → drop i (take o s) ≡ get_or s i 0 ∷ drop (i + 1) (take o s)
   next l =
       let there : i < length (take o s) = rw (length-take-le o s l) h in
-      drop_cons (take o s) i 0 there ∙ rw (get_or-take o s i 0 h, add-one)
+      drop-cons (take o s) i 0 there ∙ rw (get_or-take o s i 0 h, add-one)
 
   feeds_at : o ≤ length s → feeds_in (drop i (take o s)) ≡ cond (eqb (get_or s i 0) LF) 1 0 + feeds_in (drop (i + 1) (take o s))
   unfolding feeds_in

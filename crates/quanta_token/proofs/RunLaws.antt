@@ -6,7 +6,7 @@ use mathlib.Core.List.{List, [], ◌∷◌}
 use native.Mathlib.Omega.{arith}
 use native.Mathlib.Numerals.{add-one}
 use lib.ListN.{drop, get_or, length, length-drop, drop_of_length-le}
-use lib.Seq.{drop_cons, drop-drop}
+use lib.Seq.{drop-cons, drop-drop}
 use Rattle.quanta_token.specs.Runs.{run, run_end}
 
 module _ (p : ℕ → Bool) where
@@ -38,11 +38,11 @@ module _ (p : ℕ → Bool) where
 
   pub end_more : (s : List ℕ) (i : ℕ) → i < length s → p (get_or s i 0) ≡ true → run_end p s i ≡ run_end p s (i + 1)
   unfolding run_end
-  end_more s i h t = rw (drop_cons s i 0 h, run_more, add-one) (omega arith)
+  end_more s i h t = rw (drop-cons s i 0 h, run_more, add-one) (omega arith)
 
   pub end_stop : (s : List ℕ) (i : ℕ) → i < length s → p (get_or s i 0) ≡ false → run_end p s i ≡ i
   unfolding run_end
-  end_stop s i h t = rw (drop_cons s i 0 h, run_stop) (omega arith)
+  end_stop s i h t = rw (drop-cons s i 0 h, run_stop) (omega arith)
 
   pub end_past : (s : List ℕ) (i : ℕ) → length s ≤ i → run_end p s i ≡ i
   unfolding run_end run

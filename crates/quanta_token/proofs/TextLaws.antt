@@ -1,12 +1,12 @@
 -- The laws of `same` and of `kind_in`.
 use Prim.Native.Nat.{ℕ, zero, suc, ◌+◌, ◌≤◌, ◌<◌}
 use mathlib.Core.Path.{◌≡◌, refl, ap, sym, ◌∙◌}
-use mathlib.Core.Bool.{Bool, true, false, ◌&&◌, and_false}
+use mathlib.Core.Bool.{Bool, true, false, ◌&&◌, and-false}
 use mathlib.Core.List.{List, [], ◌∷◌}
 use native.Mathlib.Omega.{arith}
 use native.Mathlib.Numerals.{add-one}
 use lib.ListN.{drop, get_or, length, drop_of_length-le}
-use lib.Seq.{drop_cons}
+use lib.Seq.{drop-cons}
 use lib.Dec.{eqb}
 use borrow.Author.Tests.{eq-eqb, ne_eqb}
 use Rattle.quanta_token.specs.Text.{same, kind_if}
@@ -17,11 +17,11 @@ unfolding same
 same_length [] [] h = absurd (h refl)
 same_length [] (y ∷ ys) h = refl
 same_length (x ∷ xs) [] h = refl
-same_length (x ∷ xs) (y ∷ ys) h = rw (same_length xs ys (λ e. h (ap suc e))) (and_false (eqb x y))
+same_length (x ∷ xs) (y ∷ ys) h = rw (same_length xs ys (λ e. h (ap suc e))) (and-false (eqb x y))
 
 at_drop : (a b : List ℕ) (i : ℕ) → i < length a → i < length b → same (drop i a) (drop i b) ≡ (eqb (get_or a i 0) (get_or b i 0) && same (drop (suc i) a) (drop (suc i) b))
 unfolding same
-at_drop a b i h k = rw (drop_cons a i 0 h, drop_cons b i 0 k)
+at_drop a b i h k = rw (drop-cons a i 0 h, drop-cons b i 0 k)
 
 pub same_more :
     (a b : List ℕ) (i : ℕ) →

@@ -6,7 +6,7 @@ use mathlib.Core.List.{List, [], ◌∷◌}
 use native.Mathlib.Omega.{arith}
 use native.Mathlib.Numerals.{add-one}
 use lib.ListN.{length, get_or, drop, drop_of_length-le}
-use lib.Seq.{drop_cons}
+use lib.Seq.{drop-cons}
 use lib.Dec.{eqb, ltb, leb}
 use borrow.Author.Tests.{lt-ltb, le-ltb, eq-eqb, ne_eqb}
 use Rattle.quanta_token.specs.Text.{same}
@@ -17,7 +17,7 @@ use Rattle.quanta_words.proofs.WordLaws.{held_from, same_eq, held_next}
 module _ (a b : List ℕ) (i : ℕ) where
   at_both : i < length a → i < length b → order_of (drop i a) (drop i b) ≡ cond (ltb (get_or a i 0) (get_or b i 0)) 0 (cond (ltb (get_or b i 0) (get_or a i 0)) 2 (order_of (drop (suc i) a) (drop (suc i) b)))
   unfolding order_of
-  at_both h k = rw (drop_cons a i 0 h, drop_cons b i 0 k)
+  at_both h k = rw (drop-cons a i 0 h, drop-cons b i 0 k)
 
   pub order_less : i < length a → i < length b → get_or a i 0 < get_or b i 0 → order_of (drop i a) (drop i b) ≡ 0
   order_less h k l = at_both h k ∙ rw (lt-ltb _ _ l)
@@ -30,11 +30,11 @@ module _ (a b : List ℕ) (i : ℕ) where
 
   pub order_short : i < length a → length b ≤ i → order_of (drop i a) (drop i b) ≡ 2
   unfolding order_of
-  order_short h k = rw (drop_cons a i 0 h, drop_of_length-le b k)
+  order_short h k = rw (drop-cons a i 0 h, drop_of_length-le b k)
 
   pub order_first : length a ≤ i → i < length b → order_of (drop i a) (drop i b) ≡ 0
   unfolding order_of
-  order_first h k = rw (drop_of_length-le a h, drop_cons b i 0 k)
+  order_first h k = rw (drop_of_length-le a h, drop-cons b i 0 k)
 
   pub order_same : length a ≤ i → length b ≤ i → order_of (drop i a) (drop i b) ≡ 1
   unfolding order_of

@@ -6,7 +6,7 @@ use mathlib.Core.List.{List, [], ◌∷◌}
 use native.Mathlib.Omega.{arith}
 use native.Mathlib.Numerals.{add-one}
 use lib.ListN.{length, get_or, take, drop, drop_of_length-le}
-use lib.Seq.{drop_cons}
+use lib.Seq.{drop-cons}
 use lib.Dec.{eqb, leb, ltb}
 use borrow.Author.Tests.{lt-ltb, le-ltb, le-leb, lt-leb, leb-true, leb-false, ltb-false, eqb-true}
 use Rattle.quanta_token.specs.Bytes.{word_start, word_byte}
@@ -27,11 +27,11 @@ word_none (c ∷ cs) h = rw h
 module _ (p : ℕ → Bool) (w : List ℕ) (i : ℕ) where
   pub all_more : i < length w → p (get_or w i 0) ≡ true → all p (drop i w) ≡ all p (drop (i + 1) w)
   unfolding all
-  all_more h e = rw (drop_cons w i 0 h, e, add-one)
+  all_more h e = rw (drop-cons w i 0 h, e, add-one)
 
   pub all_stop : i < length w → p (get_or w i 0) ≡ false → all p (drop i w) ≡ false
   unfolding all
-  all_stop h e = rw (drop_cons w i 0 h, e)
+  all_stop h e = rw (drop-cons w i 0 h, e)
 
   pub all_past : length w ≤ i → all p (drop i w) ≡ true
   unfolding all

@@ -7,7 +7,7 @@ use native.Mathlib.Omega.{arith}
 use native.Mathlib.Numerals.{add-one}
 use lib.Dec.{T, ltb, leb, eqb, leb-zero}
 use lib.ListN.{length, drop, get_or, length-drop, drop_of_length-le}
-use lib.Seq.{drop_cons, drop-drop}
+use lib.Seq.{drop-cons, drop-drop}
 use borrow.Author.Tests.{lt-ltb, le-ltb, eq-eqb, ne_eqb, eqb-false}
 use Rattle.utf8.specs.declared.Found.{Found}
 use Rattle.utf8.specs.declared.Found.TheVariants.{At, AllWell}
@@ -34,7 +34,7 @@ by_test P false y n = n refl
 -- one byte, at a place
 pub octet_in : (o : Octet) (s : List ℕ) (i : ℕ) → i < length s → (leb o.low (get_or s i 0) && leb (get_or s i 0) o.high) ≡ fits (o ∷ []) (drop i s)
 unfolding fits
-octet_in o s i h = rw (drop_cons s i 0 h) (sym (and_true _))
+octet_in o s i h = rw (drop-cons s i 0 h) (sym (and_true _))
 
 pub octet_past : (o : Octet) (s : List ℕ) (i : ℕ) → length s ≤ i → false ≡ fits (o ∷ []) (drop i s)
 unfolding fits
@@ -116,7 +116,7 @@ char_inside s i h = omega (arith, form_inside utf8_char (drop i s), length-drop 
 
 pub ascii_one : (s : List ℕ) (i : ℕ) → i < length s → ascii (get_or s i 0) ≡ true → char_len s i ≡ 1
 unfolding form_len fits
-ascii_one s i h a = rw (drop_cons s i 0 h, leb-zero, a)
+ascii_one s i h a = rw (drop-cons s i 0 h, leb-zero, a)
 
 module _ (s : List ℕ) where
   -- past the end no turn finds anything
