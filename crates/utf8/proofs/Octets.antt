@@ -82,6 +82,7 @@ other_range o p c h l u =
 -- so what fits one of the later forms does not fit the form before them
 not_before : (o : Octet) (f : List Octet) (fs : List (List Octet)) (s : List ℕ) {g : List Octet} → T (clear o fs) → Memᴰ g fs → fits g s ≡ true → fits (o ∷ f) s ≡ false
 unfolding fits
+not_before o f [] s {g = g} k m h = elim m [ ]
 not_before o f ([] ∷ fs) s k m h = absurd k
 not_before o f ((p ∷ q) ∷ fs) s {g} k (Memᴰ.head e) h = here s (subst (λ x. fits x s ≡ true) e h) where
   here : (s : List ℕ) → fits (p ∷ q) s ≡ true → fits (o ∷ f) s ≡ false
@@ -95,6 +96,7 @@ not_before o f ((p ∷ q) ∷ fs) s k (Memᴰ.tail m) h =
 -- and a form that fits is the one that is found
 found : (fs : List (List Octet)) (s : List ℕ) {g : List Octet} → T (apart fs) → Memᴰ g fs → fits g s ≡ true → form_len fs s ≡ length g
 unfolding form_len
+found [] s {g = g} k m h = elim m [ ]
 found ([] ∷ fs) s k m h = absurd k
 found ((o ∷ f) ∷ fs) s {g} k (Memᴰ.head e) h = rw (subst (λ x. fits x s ≡ true) e h) (sym (ap length e))
 found ((o ∷ f) ∷ fs) s k (Memᴰ.tail m) h =
@@ -102,6 +104,7 @@ found ((o ∷ f) ∷ fs) s k (Memᴰ.tail m) h =
     rw (not_before o f fs s b.0 m h) (found fs s b.1 m h)
 
 filled : (fs : List (List Octet)) {g : List Octet} → T (apart fs) → Memᴰ g fs → 0 < length g
+filled [] {g = g} k m = elim m [ ]
 filled ([] ∷ fs) k m = absurd k
 filled ((o ∷ f) ∷ fs) k (Memᴰ.head e) = rw e (omega arith)
 filled ((o ∷ f) ∷ fs) k (Memᴰ.tail m) = filled fs (split (clear o fs) (apart fs) k).1 m

@@ -1,0 +1,6 @@
+use native.Mathlib.Omega.{arith}
+use borrow.Author.Rules.{rules}
+use Rattle.quanta_token.proofs.bytes.class.Goals as goal
+
+pub returns : goal.returns
+returns c = rw c.wide.ensures (c.requires c.args.c (omega arith))

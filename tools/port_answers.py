@@ -1,0 +1,256 @@
+#!/usr/bin/env python3
+"""Turns a crate's walks (proofs/F/Proof.antt of the older Rattle) to today's Invariants.antt and Answers.antt.
+
+usage: python3 tools/port_answers.py CRATE NAMES [FUNCTION..]
+       at the top; NAMES is the names.json that `rt check --generated FOLDER --old-names` wrote in crates/CRATE
+
+A goal's answer keeps its text: `c.before.before.loop.invariant` becomes `c.loop-i.invariant`, by the steps that names.json lists.
+An answer that is only `search rules` goes, since the check tries that by itself. What has no counterpart is printed.
+A walk of a cycle of calls stays as it is.
+"""
+import json
+import os
+import re
+import sys
+
+SIGNATURE = re.compile(r"^((?:abbrev |pub |unfoldable )*)([^\s:(){}]+) : ?(.*)$")
+PATH = r"((?:\.before)*)((?:\.[\w₀-₉'-]+)*)"
+
+
+def plain(name):
+    return re.sub(r"^(overflow|slice|array|shared-slice|element)-", "", name.replace("_", "-"))
+
+
+def dashed(name):
+    return name.replace("_", "-")
+
+
+class Walk:
+    def __init__(self, told, where):
+        self.told = told
+        self.where = where
+        self.places = {}
+        for i, p in enumerate(told["places"]):
+            self.places.setdefault(dashed(p[0]), i)
+        self.lost = []
+
+    def parent(self, i):
+        name = self.told["places"][i][1]
+        return None if name is None else self.places[dashed(name)]
+
+    def step_at(self, i, name, rest):
+        """The new name of a step of the place, and what is left of its path; None where the place has no such step."""
+        old, new = self.told["places"][i][2]
+        if dashed(old) != dashed(name):
+            return None
+        arm = self.told["arms"][i]
+        if arm:
+            for field, step, path in arm[2]:
+                if dashed(step) == dashed(name) and rest[: len(path)] == path:
+                    return [arm[0], field] + rest[len(path) :]
+        return [new] + rest
+
+    def turned(self, place, fields):
+        name, rest = fields[0], fields[1:]
+        i = place
+        while i is not None:
+            got = self.step_at(i, name, rest)
+            if got:
+                return got
+            i = self.parent(i)
+        if name not in ("args", "requires", "ranges", "well_formed", "pre"):
+            self.lost.append("%s: no step %s at %s" % (self.where, ".".join(fields), self.told["places"][place][0]))
+        return fields
+
+    def body(self, text, place, var="c", alias="c"):
+        def one(m):
+            fields = m.group(2).split(".")[1:]
+            if not fields:
+                if m.group(1):
+                    self.lost.append("%s: a place passed on: %s" % (self.where, m.group(0)))
+                return m.group(0) if m.group(1) else alias
+            return alias + "." + ".".join(self.turned(place, fields))
+
+        return re.sub(r"(?<![\w.'₀-₉-])" + re.escape(var) + r"(?![\w'₀-₉-])" + PATH, one, text)
+
+
+def blocks(text):
+    """The head (comments and imports), and each declaration with the comments above it."""
+    lines = text.split("\n")
+    head, out, held = [], [], []
+    for line in lines:
+        if SIGNATURE.match(line) and not line.startswith(("use ", "--", "module ")):
+            out.append(held + [line])
+            held = []
+        elif not out and (line.startswith(("use ", "--")) or line == ""):
+            head.append(line)
+        elif line.startswith("--"):
+            held.append(line)
+        else:
+            (out[-1] if out else head).append(line)
+    return head, out
+
+
+def let_places(walk, text, place):
+    """A `let s : tie.P = search in` names a place further out: what is cited of it is cited of c."""
+    while True:
+        m = re.search(r"\blet ([\w₀-₉'-]+) : tie\.([\w-]+)(?: [\w₀-₉'-]+)* = search in\s*", text)
+        if not m:
+            return text
+        at = walk.places.get(dashed(m.group(2)), place)
+        rest = walk.body(text[m.end() :], at, m.group(1))
+        text = text[: m.start()] + rest
+
+
+def live(walk, loop, name):
+    (_, new), names = loop
+    changed = walk.told["changed"][[l[0][1] for l in walk.told["loops"]].index(new)]
+    start = [(n + "₀" if c else n) for n, c in zip(names, changed)]
+    rows = {s: ("l.initial." if c else "l.") + n for s, n, c in zip(start, names, changed)}
+    rows.update({n: "l." + n for n, c in zip(names, changed) if c})
+    order = start + [n for n, c in zip(names, changed) if c]
+    return order, rows
+
+
+def invariant(walk, block, kind):
+    text = "\n".join(block)
+    m = re.search(r"^%s-([\w-]+)((?: [^\s=]+)*) =" % kind, text, re.M)
+    old = m.group(1)
+    loop = [l for l in walk.told["loops"] if dashed(l[0][0]) == dashed(old)]
+    if not loop:
+        walk.lost.append("%s: no loop %s" % (walk.where, old))
+        return text
+    order, rows = live(walk, loop[0], kind)
+    given = m.group(2).split()
+    if len(given) != len(order):
+        walk.lost.append("%s: loop %s has %s, and not %s" % (walk.where, old, order, given))
+    by = {g: rows[o] for g, o in zip(given, order) if g != "_"}
+    body = text[m.end() :]
+    word = r"(?<![\w.'₀-₉-])(%s)(?![\w'₀-₉-])" % "|".join(sorted(map(re.escape, by), key=len, reverse=True)) if by else r"(?!)"
+    body = re.sub(word, lambda w: by[w.group(1)], body)
+    new = "%s-%s" % (kind, loop[0][0][1])
+    comments = "".join(l + "\n" for l in block if l.startswith("--"))
+    return "%sabbrev pub %s : goal.%s\n%s l =%s" % (comments, new, new, new, body)
+
+
+def align(olds, news):
+    """Each old goal's place in the new list."""
+    out, used = {}, set()
+    for name in (dashed, plain):
+        for i, o in enumerate(olds):
+            if i in out:
+                continue
+            for j, (n, _) in enumerate(news):
+                if j not in used and name(n) == name(o):
+                    out[i] = j
+                    used.add(j)
+                    break
+    return out
+
+
+def turn(crate, path, function, told, lost):
+    with open(path, encoding="utf-8") as f:
+        text = f.read()
+    walk = Walk(told, crate + "::" + function)
+    head, decls = blocks(text)
+    needs, invariants, helpers = [], [], []
+    for block in decls:
+        line = next(l for l in block if SIGNATURE.match(l))
+        _, name, kind = SIGNATURE.match(line).groups()
+        m = re.match(r"tie\.Need-([\w-]+)", kind)
+        if m:
+            needs.append((name, m.group(1), block))
+        elif re.match(r"tie\.(invariant|decreases)-", kind):
+            invariants.append(block)
+        elif "statement M" in kind or any("tie.close" in l for l in block):
+            continue
+        else:
+            helpers.append(block)
+    at = align([n[1] for n in needs], told["needs"])
+    renamed = {n[0]: told["needs"][at[i]][1] for i, n in enumerate(needs) if i in at}
+    answers = []
+    for i, (name, old, block) in enumerate(needs):
+        text = "\n".join(block).rstrip("\n")
+        m = re.search(r"^%s ([\w₀-₉']+)((?: [^\s=]+)*) =" % re.escape(name), text, re.M)
+        if i not in at:
+            if not text.endswith("= search rules"):
+                walk.lost.append("%s: no goal for %s" % (walk.where, old))
+                answers.append("-- no goal: " + text.replace("\n", "\n-- "))
+            continue
+        if text.endswith("= search rules"):
+            continue
+        new = told["needs"][at[i]][1]
+        place = walk.places[dashed(told["asked_at"][at[i]][0])]
+        between = re.search(r"^unfolding .*$", text, re.M)
+        comments = "".join(l + "\n" for l in block if l.startswith("--"))
+        if not m:
+            walk.lost.append("%s: no clause of %s" % (walk.where, name))
+            continue
+        body = let_places(walk, text[m.end() :], place)
+        body = walk.body(body, place, m.group(1))
+        # What an `if` on `!x` tells is a fact about x today.
+        body = re.sub(r"not[-_](?:true|false) _ (c\.if-[\w.₀-₉-]+)", r"\1", body)
+        extra = [x for x in m.group(2).split() if x not in ("_", "κs", "q") or re.search(r"(?<![\w-])%s(?![\w-])" % x, body)]
+        extra = [x for x in extra if x not in ("κs", "_")]
+        if re.search(r"κs", body):
+            walk.lost.append("%s: κs in %s" % (walk.where, new))
+        for a, b in renamed.items():
+            if a != b:
+                body = re.sub(r"(?<![\w.'₀-₉-])%s(?= c\b)" % re.escape(a), b, body)
+        answers.append(
+            "%spub %s : goal.%s\n%s%s c%s =%s"
+            % (comments, new, new, between.group(0) + "\n" if between else "", new, "".join(" " + x for x in extra), body)
+        )
+    base = "Rattle.%s.proofs.%s" % (crate, function)
+    uses = [l for l in head if not re.search(r"\.Statement\.\{statement\}|\.Tie as tie", l)]
+    while uses and uses[-1] == "":
+        uses.pop()
+    comments = [l for l in uses if l.startswith("--")]
+    uses = [l for l in uses if l.startswith("use ")]
+    folder = os.path.dirname(path)
+    mine = "\n\n".join("\n".join(b).rstrip("\n") for b in helpers)
+    if re.search(r"\btie\.", mine):
+        walk.lost.append("%s: a helper speaks of the walk" % walk.where)
+    if invariants:
+        made = []
+        for b in invariants:
+            kind = "invariant" if any("tie.invariant-" in l for l in b) else "decreases"
+            made.append(invariant(walk, b, kind).rstrip("\n"))
+        out = comments + uses + ["use %s.Given as goal" % base, "", "\n\n".join(made), ""]
+        with open(os.path.join(folder, "Invariants.antt"), "w", encoding="utf-8") as f:
+            f.write("\n".join(out))
+        comments = []
+    if answers or helpers:
+        out = comments + uses + ["use %s.Goals as goal" % base, ""]
+        if mine:
+            out += [mine, ""]
+        out += ["\n\n".join(answers), ""]
+        with open(os.path.join(folder, "Answers.antt"), "w", encoding="utf-8") as f:
+            f.write("\n".join(out))
+    os.remove(path)
+    lost += walk.lost
+
+
+def main():
+    crate, names = sys.argv[1:3]
+    only = sys.argv[3:]
+    with open(names, encoding="utf-8") as f:
+        told = json.load(f)
+    top = os.path.join("crates", crate, "proofs")
+    lost = []
+    for folder, _, files in sorted(os.walk(top)):
+        if "Proof.antt" not in files or "+" in folder:
+            continue
+        function = os.path.relpath(folder, top).replace(os.sep, ".")
+        if only and function not in only:
+            continue
+        key = "Rattle-%s-proofs.%s.Lts" % (crate, function)
+        if key not in told:
+            print("no names of", function)
+            continue
+        turn(crate, os.path.join(folder, "Proof.antt"), function, told[key], lost)
+    for l in lost:
+        print(l)
+
+
+main()
