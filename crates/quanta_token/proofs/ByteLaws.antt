@@ -1,7 +1,7 @@
 -- The laws of the byte classes: what the chart says of a byte is what the tests say, by one test computed over the 256 bytes.
 use Prim.Native.Nat.{ℕ, zero, suc, ◌+◌, ◌<◌}
 use mathlib.Core.Path.{◌≡◌, refl, sym, ◌∙◌}
-use mathlib.Core.Bool.{Bool, true, false, cond, not, ◌&&◌}
+use mathlib.Core.Bool.{Bool, true, false, not, ◌&&◌}
 use mathlib.Core.List.{List}
 use native.Mathlib.Omega.{arith}
 use lib.ListN.{length, get_or, set}
@@ -9,7 +9,7 @@ use lib.Seq.{get_or-set_same, get_or-set_other}
 use lib.Dec.{leb, eqb}
 use borrow.Author.Tests.{eqb-true, eqb-false}
 use Rattle.quanta_token.proofs.BoolLaws.{both}
-use Rattle.quanta_token.specs.Bytes.{digit, word_start, word_byte, blank, ByteClass, WordStart, Digit, Blank, Quote, class_of, class_code}
+use Rattle.quanta_token.specs.Bytes.{digit, word_start, word_byte, blank, WordStart, Digit, Blank, Quote, class_of, class_code}
 
 -- f holds of each number below n
 unfoldable all : (ℕ → Bool) → ℕ → Bool

@@ -1,5 +1,5 @@
 -- The classes of bytes.
-use Rattle.std.specs.Prelude.{ℕ, ◌<◌, Bool, true, false, not, cond, ◌&&◌, ◌||◌, List, ◌≡◌, leb, eqb, get_or}
+use Rattle.std.specs.Prelude.{ℕ, ◌<◌, Bool, not, cond, ◌&&◌, ◌||◌, List, ◌≡◌, leb, eqb, get_or}
 use Rattle.quanta_token.specs.declared.bytes.Run.{Run}
 use Rattle.quanta_token.specs.declared.bytes.Run.TheVariants.{Blanks, Word, Number, Comment, Quoted}
 

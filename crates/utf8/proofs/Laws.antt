@@ -9,7 +9,6 @@ use lib.Dec.{T, ltb, leb, eqb, leb-zero}
 use lib.ListN.{length, drop, get_or, length-drop, drop_of_length-le}
 use lib.Seq.{drop-cons, drop-drop}
 use borrow.Author.Tests.{lt-ltb, le-ltb, eq-eqb, ne_eqb, eqb-false}
-use Rattle.utf8.specs.declared.Found.{Found}
 use Rattle.utf8.specs.declared.Found.TheVariants.{At, AllWell}
 use Rattle.utf8.specs.Utf8.{Octet, fits, form_len, char_len, utf8_char, bad_from}
 use Rattle.utf8.specs.Block.{ascii, every}

@@ -1,7 +1,7 @@
 -- Laws of texts as sequence after sequence, and what they say of `bad_from`.
 use mathlib.Core.Path.{◌≡◌, refl, sym, ap, subst, ◌∙◌}
 use mathlib.Core.Bool.{Bool, true, false, ◌&&◌, ◌||◌, cond, false≢true}
-use mathlib.Core.List.{List, [], ◌∷◌, ◌++◌, append_assoc, append-nil, Memᴰ}
+use mathlib.Core.List.{List, [], ◌∷◌, ◌++◌, append_assoc, Memᴰ}
 use Prim.Native.Nat.{ℕ, zero, suc, ◌+◌, ◌-◌, ◌≤◌, ◌<◌}
 use native.Mathlib.Nat.{sub_self}
 use native.Mathlib.Omega.{arith}
@@ -9,10 +9,9 @@ use lib.Dec.{T, leb, ltb, eqb}
 use lib.ListN.{length, take, drop, length-append, length-drop, take-append-drop, drop_of_length-le}
 use lib.Seq.{take-add, drop-drop, drop-append_seam, length-take-le}
 use borrow.Author.Tests.{ltb-true, ltb-false, eqb-true, eqb-false, leb-true, lt-leb}
-use Rattle.utf8.specs.declared.Found.{Found}
 use Rattle.utf8.specs.declared.Found.TheVariants.{At, AllWell}
 use Rattle.utf8.specs.Utf8.{Octet, fits, form_len, utf8_char, char_len, bad_from, Char, Octets, none, more}
-use Rattle.utf8.proofs.Laws.{both, by_test, fits_inside, past, next}
+use Rattle.utf8.proofs.Laws.{both, by_test, fits_inside, next}
 
 -- the form that fits, where one does
 pub record Fitting (fs : List (List Octet)) (s : List ℕ) : Type 0 where

@@ -1,8 +1,6 @@
 use Prim.Native.Nat.{◌≤◌, ◌-◌}
-use mathlib.Core.Path.{◌≡◌, refl, ap, ◌∙◌}
-use native.Mathlib.Omega.{arith}
+use mathlib.Core.Path.{◌≡◌}
 use Rattle.utf8.specs.Block.{ascii, every}
-use Rattle.utf8.proofs.Laws.{every_next}
 use Rattle.utf8.proofs.ascii_block.Given as goal
 
 abbrev pub invariant-loop-k : goal.invariant-loop-k

@@ -1,9 +1,7 @@
-use mathlib.Core.Path.{◌≡◌, sym, ◌∙◌}
-use Prim.Native.Nat.{ℕ}
+use mathlib.Core.Path.{sym, ◌∙◌}
 use lib.ListN.{drop}
-use Rattle.utf8.specs.Utf8.{utf8_3, utf8_4, utf8_char, form_len}
+use Rattle.utf8.specs.Utf8.{utf8_3, utf8_4, utf8_char}
 use Rattle.utf8.proofs.Laws.{row, from, taken, passed, found_first, found_later}
-use borrow.Author.Rules.{rules}
 use Rattle.utf8.proofs.char_len.Goals as goal
 
 pub returns-then-octet : goal.returns-then-octet

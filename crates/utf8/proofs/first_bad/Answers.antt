@@ -1,8 +1,6 @@
-use Prim.Native.Nat.{◌≤◌, ◌-◌}
-use mathlib.Core.Path.{◌≡◌, refl, sym, ◌∙◌}
+use mathlib.Core.Path.{refl, sym, ◌∙◌}
 use native.Mathlib.Omega.{arith}
 use lib.ListN.{length}
-use Rattle.utf8.specs.Utf8.{bad_from, first_bad}
 use Rattle.utf8.proofs.Laws.{char_inside, past, stop, next, past_ascii}
 use Rattle.utf8.proofs.first_bad.Goals as goal
 

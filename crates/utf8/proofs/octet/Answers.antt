@@ -1,6 +1,5 @@
 use Rattle.utf8.specs.Utf8.{◌to◌}
 use Rattle.utf8.proofs.Laws.{octet_in, octet_past}
-use borrow.Author.Rules.{rules}
 use Rattle.utf8.proofs.octet.Goals as goal
 
 pub returns-then-i-s : goal.returns-then-i-s

@@ -1,7 +1,6 @@
 use mathlib.Core.List.{[], ◌∷◌}
 use Rattle.utf8.specs.Utf8.{◌to◌}
 use Rattle.utf8.proofs.Laws.{grown, stopped}
-use borrow.Author.Rules.{rules}
 use Rattle.utf8.proofs.two.Goals as goal
 
 pub returns-then-octet : goal.returns-then-octet

@@ -3,7 +3,6 @@ use lib.ListN.{drop}
 use Rattle.utf8.specs.Utf8.{form_len}
 use Rattle.utf8.specs.Utf8.{utf8_4 as rows}
 use Rattle.utf8.proofs.Laws.{row, from, taken, passed}
-use borrow.Author.Rules.{rules}
 use Rattle.utf8.proofs.utf8_4.Goals as goal
 
 pub returns-then-four : goal.returns-then-four

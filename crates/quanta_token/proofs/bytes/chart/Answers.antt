@@ -1,11 +1,8 @@
-use Prim.Native.Nat.{ℕ, ◌≤◌, ◌<◌, ◌-◌}
-use mathlib.Core.Path.{◌≡◌, refl}
-use lib.ListN.{length, get_or, length-set}
+use Prim.Native.Nat.{◌<◌}
+use mathlib.Core.Path.{refl}
+use lib.ListN.{length, length-set}
 use native.Mathlib.Omega.{arith}
-use borrow.Author.Count.{below_none}
-use Rattle.quanta_token.specs.Bytes.{class_of, class_code}
 use Rattle.quanta_token.proofs.ByteLaws.{chart_more}
-use borrow.Author.Rules.{rules}
 use Rattle.quanta_token.proofs.bytes.chart.Goals as goal
 
 pub loop-c-init : goal.loop-c-init

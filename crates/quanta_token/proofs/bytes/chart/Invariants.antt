@@ -1,12 +1,8 @@
 -- The invariant: the entries below c are right.
 use Prim.Native.Nat.{ℕ, ◌≤◌, ◌<◌, ◌-◌}
-use mathlib.Core.Path.{◌≡◌, refl}
-use lib.ListN.{length, get_or, length-set}
-use native.Mathlib.Omega.{arith}
-use borrow.Author.Count.{below_none}
+use mathlib.Core.Path.{◌≡◌}
+use lib.ListN.{length, get_or}
 use Rattle.quanta_token.specs.Bytes.{class_of, class_code}
-use Rattle.quanta_token.proofs.ByteLaws.{chart_more}
-use borrow.Author.Rules.{rules}
 use Rattle.quanta_token.proofs.bytes.chart.Given as goal
 
 abbrev pub invariant-loop-c : goal.invariant-loop-c

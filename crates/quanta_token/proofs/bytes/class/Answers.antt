@@ -1,5 +1,4 @@
 use native.Mathlib.Omega.{arith}
-use borrow.Author.Rules.{rules}
 use Rattle.quanta_token.proofs.bytes.class.Goals as goal
 
 pub returns : goal.returns

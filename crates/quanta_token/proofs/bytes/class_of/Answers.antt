@@ -1,7 +1,6 @@
 use mathlib.Core.Path.{sym, ◌∙◌}
 use borrow.Author.Tests.{eq-eqb, ne_eqb}
 use Rattle.quanta_token.specs.Bytes.{class_of}
-use borrow.Author.Rules.{rules}
 use Rattle.quanta_token.proofs.bytes.class_of.Goals as goal
 
 pub returns-then-is_word_start : goal.returns-then-is_word_start

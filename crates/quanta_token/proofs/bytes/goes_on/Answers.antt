@@ -1,6 +1,5 @@
 use native.Mathlib.Omega.{arith}
 use Rattle.quanta_token.proofs.ByteLaws.{blank_class, word_class, digit_class}
-use borrow.Author.Rules.{rules}
 use Rattle.quanta_token.proofs.bytes.goes_on.Goals as goal
 
 pub returns-in-Blanks : goal.returns-in-Blanks

@@ -1,12 +1,6 @@
-use Prim.Native.Nat.{◌≤◌, ◌-◌}
-use mathlib.Core.Path.{◌≡◌, refl, sym, ◌∙◌}
-use lib.ListN.{length}
+use mathlib.Core.Path.{refl, sym, ◌∙◌}
 use native.Mathlib.Omega.{arith}
-use borrow.Author.Tests.{not-true, not-false}
-use Rattle.quanta_token.specs.Bytes.{goes_on}
-use Rattle.quanta_token.specs.Runs.{run_end}
 use Rattle.quanta_token.proofs.RunLaws.{end_more, end_stop, end_past}
-use borrow.Author.Rules.{rules}
 use Rattle.quanta_token.proofs.bytes.run_end.Goals as goal
 
 pub loop-i-init : goal.loop-i-init

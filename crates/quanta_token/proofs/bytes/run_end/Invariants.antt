@@ -1,12 +1,8 @@
 use Prim.Native.Nat.{◌≤◌, ◌-◌}
-use mathlib.Core.Path.{◌≡◌, refl, sym, ◌∙◌}
+use mathlib.Core.Path.{◌≡◌}
 use lib.ListN.{length}
-use native.Mathlib.Omega.{arith}
-use borrow.Author.Tests.{not-true, not-false}
 use Rattle.quanta_token.specs.Bytes.{goes_on}
 use Rattle.quanta_token.specs.Runs.{run_end}
-use Rattle.quanta_token.proofs.RunLaws.{end_more, end_stop, end_past}
-use borrow.Author.Rules.{rules}
 use Rattle.quanta_token.proofs.bytes.run_end.Given as goal
 
 abbrev pub invariant-loop-i : goal.invariant-loop-i

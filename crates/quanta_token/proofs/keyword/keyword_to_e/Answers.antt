@@ -3,7 +3,6 @@ use mathlib.Core.Path.{sym, ◌∙◌}
 use native.Mathlib.Omega.{arith}
 use Rattle.quanta_token.proofs.TextLaws.{link}
 use Rattle.quanta_token.proofs.SpellLaws.{which, begins, no_keyword}
-use borrow.Author.Rules.{rules}
 use Rattle.quanta_token.proofs.keyword.keyword_to_e.Goals as goal
 
 pub returns-in-81 : goal.returns-in-81

@@ -1,9 +1,5 @@
-use Prim.Native.Nat.{◌≤◌, ◌-◌}
-use mathlib.Core.Path.{◌≡◌, refl, sym, ◌∙◌}
-use lib.ListN.{length, get_or, drop}
+use mathlib.Core.Path.{refl, sym, ◌∙◌}
 use native.Mathlib.Omega.{arith}
-use borrow.Author.Rules.{rules}
-use Rattle.quanta_token.specs.Text.{same}
 use Rattle.quanta_token.proofs.TextLaws.{same_length, same_more, same_stop, same_past}
 use Rattle.quanta_token.proofs.text.same.Goals as goal
 

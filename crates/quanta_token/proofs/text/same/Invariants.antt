@@ -1,10 +1,7 @@
 use Prim.Native.Nat.{◌≤◌, ◌-◌}
-use mathlib.Core.Path.{◌≡◌, refl, sym, ◌∙◌}
-use lib.ListN.{length, get_or, drop}
-use native.Mathlib.Omega.{arith}
-use borrow.Author.Rules.{rules}
+use mathlib.Core.Path.{◌≡◌}
+use lib.ListN.{length, drop}
 use Rattle.quanta_token.specs.Text.{same}
-use Rattle.quanta_token.proofs.TextLaws.{same_length, same_more, same_stop, same_past}
 use Rattle.quanta_token.proofs.text.same.Given as goal
 
 abbrev pub invariant-loop-i : goal.invariant-loop-i

@@ -1,6 +1,5 @@
 use Rattle.quanta_token.specs.Text.{kind_if}
 use mathlib.Core.Path.{sym, ◌∙◌}
-use borrow.Author.Rules.{rules}
 use Rattle.quanta_token.proofs.text.spelled.Goals as goal
 
 pub returns-then-same : goal.returns-then-same
