@@ -1,0 +1,14 @@
+use borrow.Author.Rules.{rules}
+use native.Mathlib.Omega.{arith}
+use Prim.Native.Nat.{◌≤◌, ◌+◌, ◌-◌}
+use mathlib.Core.Path.{◌≡◌, sym, ◌∙◌}
+use lib.ListN.{length}
+use Rattle.quanta_source.specs.Source.{check_from, checked}
+use Rattle.quanta_source.proofs.Laws.{bare_stops, barred_stops, goes_on, at_end, goes_past}
+use Rattle.quanta_source.proofs.source.check_source.Given as goal
+
+abbrev pub invariant-loop-i : goal.invariant-loop-i
+invariant-loop-i l = (l.i ≤ length l.src) × (checked l.src ≡ check_from (length l.src - l.i) l.src l.i)
+
+abbrev pub decreases-loop-i : goal.decreases-loop-i
+decreases-loop-i l = length l.src - l.i

@@ -1,0 +1,14 @@
+use borrow.Author.Rules.{rules}
+use borrow.Author.Tests.{not-false}
+use lib.ListN.{length}
+use native.Mathlib.Omega.{arith}
+use Prim.Native.Nat.{◌≤◌, ◌+◌, ◌-◌}
+use Rattle.quanta_source.specs.Tests.{FineIn}
+use Rattle.quanta_source.proofs.Laws.{fine_join}
+use Rattle.quanta_source.proofs.source.skip_blocks.Given as goal
+
+abbrev pub invariant-loop-at : goal.invariant-loop-at
+invariant-loop-at l = (l.at ≤ length l.src) × FineIn l.src 0 l.at
+
+abbrev pub decreases-loop-at : goal.decreases-loop-at
+decreases-loop-at l = length l.src - l.at
