@@ -3,16 +3,15 @@ use Prim.Native.Nat.{ℕ, zero, suc, ◌+◌, ◌-◌, ◌≤◌, ◌<◌}
 use mathlib.Core.Path.{◌≡◌, refl, ap, sym, ◌∙◌}
 use mathlib.Core.Bool.{Bool, true, false, not, cond, ◌&&◌, ◌||◌, false≢true}
 use mathlib.Core.List.{List}
-use mathlib.Core.Logic.{◌⊎◌, inl, inr, ⊎_elim}
 use native.Mathlib.Omega.{arith}
 use native.Mathlib.Numerals.{add-one}
 use native.Mathlib.Nat.{sub-zero}
 use lib.ListN.{length, get_or}
-use lib.Dec.{eqb, ltb, leb}
+use lib.Dec.{eqb, ltb}
 use borrow.Author.Tests.{not-true, ltb-true, ltb-false}
 use Rattle.quanta_source.specs.declared.source.Checked.{Checked}
 use Rattle.quanta_source.specs.declared.source.Checked.TheVariants.{Clean, CarriageReturn, Barred}
-use Rattle.quanta_source.specs.Source.{LF, CR, bare_at, barred_at, check_from, checked}
+use Rattle.quanta_source.specs.Source.{bare_at, barred_at, check_from, checked}
 use Rattle.quanta_source.specs.Tests.{is_lead, is_bare, is_barred, is_mark, Fine, FineIn}
 use Rattle.quanta_source.proofs.Bytes.{barred_by_bytes}
 

@@ -1,5 +1,5 @@
 -- The same by the tests that the original makes, on a byte and the two after it.
-use Rattle.std.specs.Prelude.{ℕ, ◌≤◌, ◌<◌, Bool, true, false, not, ◌&&◌, ◌||◌, List, ◌≡◌, eqb, leb}
+use Rattle.std.specs.Prelude.{ℕ, ◌≤◌, ◌<◌, Bool, false, not, ◌&&◌, ◌||◌, List, ◌≡◌, eqb, leb}
 use Rattle.quanta_source.specs.Source.{LF, CR, bare_at, barred_at}
 
 -- lo ≤ c ≤ hi

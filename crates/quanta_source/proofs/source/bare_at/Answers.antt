@@ -1,4 +1,3 @@
-use borrow.Author.Rules.{rules}
 use Rattle.quanta_source.specs.Source.{bare_at}
 use Rattle.quanta_source.proofs.source.bare_at.Goals as goal
 

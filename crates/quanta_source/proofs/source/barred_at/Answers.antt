@@ -1,4 +1,3 @@
-use borrow.Author.Rules.{rules}
 use Rattle.quanta_source.proofs.Bytes.{barred_by_bytes}
 use Rattle.quanta_source.proofs.source.barred_at.Goals as goal
 

@@ -1,9 +1,5 @@
-use borrow.Author.Rules.{rules}
 use native.Mathlib.Omega.{arith}
-use Prim.Native.Nat.{◌≤◌, ◌+◌, ◌-◌}
-use mathlib.Core.Path.{◌≡◌, sym, ◌∙◌}
-use lib.ListN.{length}
-use Rattle.quanta_source.specs.Source.{check_from, checked}
+use mathlib.Core.Path.{sym, ◌∙◌}
 use Rattle.quanta_source.proofs.Laws.{bare_stops, barred_stops, goes_on, at_end, goes_past}
 use Rattle.quanta_source.proofs.source.check_source.Goals as goal
 

@@ -1,10 +1,7 @@
-use borrow.Author.Rules.{rules}
-use native.Mathlib.Omega.{arith}
 use Prim.Native.Nat.{◌≤◌, ◌+◌, ◌-◌}
 use mathlib.Core.Path.{◌≡◌}
 use mathlib.Core.Bool.{true}
 use Rattle.quanta_source.specs.Tests.{FineIn}
-use Rattle.quanta_source.proofs.Laws.{tests_fine, fine_next, fine_none}
 use Rattle.quanta_source.proofs.source.clean_block.Given as goal
 
 abbrev pub invariant-loop-k : goal.invariant-loop-k

@@ -1,4 +1,3 @@
-use borrow.Author.Rules.{rules}
 use Rattle.quanta_source.proofs.source.passes.Goals as goal
 
 pub returns-then-quiet_block : goal.returns-then-quiet_block

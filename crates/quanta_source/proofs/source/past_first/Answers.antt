@@ -1,6 +1,5 @@
 use native.Mathlib.Omega.{arith}
 use mathlib.Core.Path.{sym, ◌∙◌}
-use borrow.Author.Rules.{rules}
 use Rattle.quanta_source.proofs.Laws.{fine_none, fine_one}
 use Rattle.quanta_source.proofs.source.past_first.Goals as goal
 

@@ -1,6 +1,5 @@
 use mathlib.Core.Path.{sym}
 use lib.ListN.{get_or-eq_default}
-use borrow.Author.Rules.{rules}
 use Rattle.quanta_source.proofs.source.peek.Goals as goal
 
 pub returns-else-i-src : goal.returns-else-i-src

@@ -1,9 +1,5 @@
-use borrow.Author.Rules.{rules}
 use native.Mathlib.Omega.{arith}
-use Prim.Native.Nat.{◌≤◌, ◌+◌, ◌-◌}
-use mathlib.Core.Path.{◌≡◌}
-use mathlib.Core.Bool.{true}
-use Rattle.quanta_source.specs.Tests.{FineIn}
+use Prim.Native.Nat.{◌+◌}
 use Rattle.quanta_source.proofs.Laws.{quiet_fine, fine_next, fine_none}
 use Rattle.quanta_source.proofs.source.quiet_block.Goals as goal
 

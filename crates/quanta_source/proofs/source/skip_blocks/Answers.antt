@@ -1,9 +1,5 @@
-use borrow.Author.Rules.{rules}
-use borrow.Author.Tests.{not-false}
-use lib.ListN.{length}
 use native.Mathlib.Omega.{arith}
-use Prim.Native.Nat.{◌≤◌, ◌+◌, ◌-◌}
-use Rattle.quanta_source.specs.Tests.{FineIn}
+use Prim.Native.Nat.{◌+◌}
 use Rattle.quanta_source.proofs.Laws.{fine_join}
 use Rattle.quanta_source.proofs.source.skip_blocks.Goals as goal
 

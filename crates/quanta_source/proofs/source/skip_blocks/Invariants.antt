@@ -1,10 +1,6 @@
-use borrow.Author.Rules.{rules}
-use borrow.Author.Tests.{not-false}
 use lib.ListN.{length}
-use native.Mathlib.Omega.{arith}
-use Prim.Native.Nat.{◌≤◌, ◌+◌, ◌-◌}
+use Prim.Native.Nat.{◌≤◌, ◌-◌}
 use Rattle.quanta_source.specs.Tests.{FineIn}
-use Rattle.quanta_source.proofs.Laws.{fine_join}
 use Rattle.quanta_source.proofs.source.skip_blocks.Given as goal
 
 abbrev pub invariant-loop-at : goal.invariant-loop-at
