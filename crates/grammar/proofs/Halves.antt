@@ -7,7 +7,7 @@ use Prim.Native.Nat.{ℕ, suc, ◌+◌, ◌≤◌}
 use native.Mathlib.Omega.{arith}
 use lib.Dec.{T, eqb, eqb→eq, eqb_refl}
 use lib.ListN.{length}
-use Rattle.grammar.specs.Grammar.{Tok, head, next, Grammar, Tree, Terms, middle, back}
+use Rattle.grammar.specs.Grammar.{Tok, head, next, Grammar, Tree, Terms, middle, front, back}
 use Rattle.grammar.specs.Grammar.{Spells, done, whole, halved}
 use Rattle.grammar.specs.Reader.{weigh, bulk}
 use Rattle.grammar.specs.Facts.{Among, here, there, bit, full, seated, placed, shut, Spaced}
@@ -88,8 +88,22 @@ no_pair p z n t e f = yes_not (eqb p z) n (subst (λ (k : ℕ). T (eqb k z)) (eq
 
 among_back : (h : ℕ) {u t : Tok} {ts : List Tok} → (T (eqb u.kind h) → ⊥) → Among u (back h t ∷ ts)
     → Among u (t ∷ ts)
-among_back h n here = absurd (n (eqb_refl h))
-among_back h n (there a) = there a
+among_back h {t = t} n a = go {x = back h t} {w = t} (eqb_refl h) n a
+  where
+    go : {u x w : Tok} {xs : List Tok} → T (eqb x.kind h) → (T (eqb u.kind h) → ⊥) → Among u (x ∷ xs)
+        → Among u (w ∷ xs)
+    go e n here = absurd (n e)
+    go e n (there a) = there a
+
+-- .. and is not the half in front either
+among_behind : (h : ℕ) {u : Tok} (t : Tok) {us ts : List Tok} → (T (eqb u.kind h) → ⊥) → Among u (front h t ∷ us)
+    → (Among u us → Among u ts) → Among u ts
+among_behind h t n a f = go {x = front h t} (eqb_refl h) n a f
+  where
+    go : {u x : Tok} {us ts : List Tok} → T (eqb x.kind h) → (T (eqb u.kind h) → ⊥) → Among u (x ∷ us)
+        → (Among u us → Among u ts) → Among u ts
+    go e n here f = absurd (n e)
+    go e n (there a) f = f a
 
 pub single_rest : (p : ℕ) (xs ys : List Tok) → T (single p (xs ++ ys)) → T (single p ys)
 single_rest p [] ys h = h
@@ -110,10 +124,10 @@ module _ {G : Grammar} where
 
   pub spells_part : {ts r : List Tok} (us vs : List Tok) → Spells G ts (us ++ vs) r → Parted G ts us vs r
   spells_part [] vs h = record { mid = _; first = done; second = h }
-  spells_part (u ∷ us) vs (whole h) =
-      let l = spells_part us vs h in record { mid = l.mid; first = whole l.first; second = l.second }
-  spells_part (u ∷ us) vs (halved {t = t} e h) =
-      let l = spells_part us vs h in record { mid = l.mid; first = halved e l.first; second = l.second }
+  spells_part (u ∷ us) vs (whole {ts = ts} h) =
+      let l = spells_part {ts = ts} us vs h in record { mid = l.mid; first = whole l.first; second = l.second }
+  spells_part (u ∷ us) vs (halved {t = t} {ts = ts} e h) =
+      let l = spells_part {ts = back G.half t ∷ ts} us vs h in record { mid = l.mid; first = halved e l.first; second = l.second }
 
   -- a condition sees a pair as it sees a half
   pub alike : (C : Terms G) (s : G.Symbol) (d : Tree G s) {ts us r : List Tok} → Spells G ts us r
@@ -149,10 +163,10 @@ module _ {G : Grammar} where
   -- a token that is spelled and is no half is one of those that stand there
   pub spells_among : {u : Tok} {ts us r : List Tok} → (T (eqb u.kind G.half) → ⊥) → Spells G ts us r
       → Among u us → Among u ts
+  spells_among n done a = elim a [ ]
   spells_among n (whole s) here = here
   spells_among n (whole s) (there a) = there (spells_among n s a)
-  spells_among n (halved e s) here = absurd (n (eqb_refl G.half))
-  spells_among n (halved e s) (there a) = among_back G.half n (spells_among n s a)
+  spells_among n (halved {t = t} e s) a = among_behind G.half t n a (λ b. among_back G.half n (spells_among n s b))
 
   -- what begins with no half begins with the token that stands there
   pub spells_head : {ts us r : List Tok} → Spells G ts us r → Begun G.half us → head ts ≡ head (us ++ r)
@@ -188,8 +202,8 @@ module _ {G : Grammar} where
     spells_shut [] l e (whole {ts = ts} done) h = (shut_rest z l ts h).0 (rw e (eqb_refl z))
     spells_shut [] l e (halved {t = t} f k) h = absurd (yes_not (eqb G.half z) n (rw e (eqb_refl z)))
     spells_shut {r = r} (u ∷ us) l e (whole {ts = ts} k) h =
-        spells_shut us l e k
+        spells_shut {ts = ts} us l e k
         ((shut_rest z u ts h).1
         (λ t. spells_none us l (subst (λ (x : List Tok). Spells G x (us ++ (l ∷ [])) r) ((shut_rest z u ts h).0 t) k)))
     spells_shut (u ∷ us) l e (halved {t = t} {ts = ts} f k) h =
-        spells_shut us l e k (shut_back G.half z n t ts ((shut_rest z t ts h).1 (no_pair G.pair z p t f)))
+        spells_shut {ts = back G.half t ∷ ts} us l e k (shut_back G.half z n t ts ((shut_rest z t ts h).1 (no_pair G.pair z p t f)))
