@@ -1,0 +1,31 @@
+-- `quanta_cursor::parser::put` meets its contract.
+-- Assumes nothing.
+use borrow.Author.Tests.{lt-ltb, le-ltb}
+use native.Mathlib.Omega.{arith}
+use lib.ListN.{length-set}
+use Rattle.quanta_cursor.specs.Tree.{put_rec}
+use borrow.Author.Rules.{rules}
+use Rattle.quanta_cursor.proofs.parser.put.Goals as goal
+
+pub returns-then-n-tree : goal.returns-then-n-tree
+unfolding put_rec
+returns-then-n-tree c = (search rules, simp (le-ltb _ _ c.if-n-tree.true))
+
+pub bounds-tree-i-2 : goal.bounds-tree-i-2
+bounds-tree-i-2 c = simp length-set (omega arith)
+
+pub bounds-tree-i-3 : goal.bounds-tree-i-3
+bounds-tree-i-3 c = simp length-set (omega arith)
+
+pub bounds-tree-i-4 : goal.bounds-tree-i-4
+bounds-tree-i-4 c = simp length-set (omega arith)
+
+pub bounds-tree-i-5 : goal.bounds-tree-i-5
+bounds-tree-i-5 c = simp length-set (omega arith)
+
+pub bounds-tree-i-6 : goal.bounds-tree-i-6
+bounds-tree-i-6 c = simp length-set (omega arith)
+
+pub returns : goal.returns
+unfolding put_rec
+returns c = (search rules, simp (lt-ltb _ _ c.if-n-tree.false))
