@@ -6,7 +6,6 @@ use Rattle.quanta_cursor.specs.declared.parser.Span.{Span}
 use Rattle.quanta_cursor.specs.Cursor.{joined}
 use Rattle.quanta_cursor.proofs.Nodes.{node_is, words_are}
 use Rattle.quanta_cursor.proofs.Meeting.{next_of, lacks_of}
-use borrow.Author.Rules.{rules}
 use Rattle.quanta_cursor.proofs.parser.close.Goals as goal
 
 pub returns-in-Refused : goal.returns-in-Refused

@@ -1,7 +1,6 @@
 -- `quanta_cursor::parser::enter` meets its contract.
 -- Assumes nothing.
 use native.Mathlib.Omega.{arith}
-use borrow.Author.Rules.{rules}
 use Rattle.quanta_cursor.proofs.parser.enter.Goals as goal
 
 pub returns : goal.returns

@@ -1,6 +1,5 @@
 -- `quanta_cursor::parser::err` meets its contract.
 -- Assumes nothing.
-use borrow.Author.Rules.{rules}
 use Rattle.quanta_cursor.proofs.parser.err.Goals as goal
 
 pub returns : goal.returns

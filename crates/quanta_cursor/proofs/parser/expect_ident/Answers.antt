@@ -3,7 +3,6 @@
 use Rattle.quanta_cursor.proofs.Sets.{is_in, not_in}
 use Rattle.quanta_token.specs.TokenKind.{code, Ident}
 use Rattle.quanta_grammar.specs.Productions.{name}
-use borrow.Author.Rules.{rules}
 use Rattle.quanta_cursor.proofs.parser.expect_ident.Goals as goal
 
 pub returns-then-peek-eq-IDENT : goal.returns-then-peek-eq-IDENT

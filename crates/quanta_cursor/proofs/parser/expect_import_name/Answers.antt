@@ -4,7 +4,6 @@ use Rattle.quanta_cursor.proofs.Sets.{is_in, not_in}
 use mathlib.Core.Logic.{⊎_elim, inl, inr}
 use Rattle.quanta_token.specs.TokenKind.{code, Ident, Quorum}
 use Rattle.quanta_grammar.specs.Productions.{type_name}
-use borrow.Author.Rules.{rules}
 use Rattle.quanta_cursor.proofs.parser.expect_import_name.Goals as goal
 
 pub returns-in-1 : goal.returns-in-1

@@ -3,7 +3,6 @@
 use mathlib.Core.List.{[], ◌∷◌}
 use Rattle.quanta_cursor.proofs.Sets.{is_in, not_in}
 use Rattle.quanta_token.specs.TokenKind.{code, codes, Int}
-use borrow.Author.Rules.{rules}
 use Rattle.quanta_cursor.proofs.parser.expect_int.Goals as goal
 
 pub returns-then-peek-eq-INT : goal.returns-then-peek-eq-INT

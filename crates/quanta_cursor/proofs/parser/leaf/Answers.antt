@@ -2,7 +2,6 @@
 -- Assumes nothing.
 use Prim.Native.Nat.{◌+◌}
 use Rattle.quanta_cursor.proofs.Nodes.{node_is, words_are}
-use borrow.Author.Rules.{rules}
 use Rattle.quanta_cursor.proofs.parser.leaf.Goals as goal
 
 pub returns : goal.returns

@@ -4,7 +4,6 @@ use mathlib.Core.Path.{ap}
 use Prim.Native.Nat.{ℕ}
 use native.Mathlib.Omega.{arith}
 use Rattle.quanta_cursor.specs.Tokens.{kind_at}
-use borrow.Author.Rules.{rules}
 use Rattle.quanta_cursor.proofs.parser.peek2.Goals as goal
 
 pub returns-then-i-tokens : goal.returns-then-i-tokens

@@ -1,6 +1,5 @@
 -- `Span::join` meets its contract.
 -- Assumes nothing.
-use borrow.Author.Rules.{rules}
 use Rattle.quanta_cursor.proofs.parser.Span.join.Goals as goal
 
 pub returns : goal.returns
