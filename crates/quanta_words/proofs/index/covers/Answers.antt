@@ -1,14 +1,12 @@
-use Prim.Native.Nat.{ℕ, suc, ◌+◌, ◌-◌, ◌≤◌, ◌<◌}
-use mathlib.Core.Path.{◌≡◌, refl, sym, ap, ◌∙◌}
+use Prim.Native.Nat.{suc}
+use mathlib.Core.Path.{◌≡◌, sym, ap, ◌∙◌}
 use mathlib.Core.Bool.{true, false≢true}
 use lib.ListN.{length}
 use native.Mathlib.Omega.{arith}
-use borrow.Author.Rules.{rules}
-use borrow.Author.Tests.{not-false}
-use Rattle.quanta_words.specs.Words.{held_in, word_at}
+use Rattle.quanta_words.specs.Words.{word_at}
 use Rattle.quanta_words.specs.Index.{probe_of}
 use Rattle.quanta_words.proofs.WordLaws.{held_all, held_stop, word_part}
-use Rattle.quanta_words.proofs.IndexLaws.{Past, past_more}
+use Rattle.quanta_words.proofs.IndexLaws.{past_more}
 use Rattle.quanta_words.proofs.index.covers.Goals as goal
 
 pub loop-i-init : goal.loop-i-init

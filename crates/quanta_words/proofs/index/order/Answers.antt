@@ -1,9 +1,5 @@
-use Prim.Native.Nat.{◌≤◌, ◌-◌}
-use mathlib.Core.Path.{◌≡◌, refl, sym, ◌∙◌}
-use lib.ListN.{length, drop}
+use mathlib.Core.Path.{refl, sym, ◌∙◌}
 use native.Mathlib.Omega.{arith}
-use borrow.Author.Rules.{rules}
-use Rattle.quanta_words.specs.Index.{order_of}
 use Rattle.quanta_words.proofs.IndexLaws.{order_less, order_above, order_more, order_short, order_first, order_same}
 use Rattle.quanta_words.proofs.index.order.Goals as goal
 

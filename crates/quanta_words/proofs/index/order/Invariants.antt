@@ -1,10 +1,7 @@
 use Prim.Native.Nat.{◌≤◌, ◌-◌}
-use mathlib.Core.Path.{◌≡◌, refl, sym, ◌∙◌}
+use mathlib.Core.Path.{◌≡◌}
 use lib.ListN.{length, drop}
-use native.Mathlib.Omega.{arith}
-use borrow.Author.Rules.{rules}
 use Rattle.quanta_words.specs.Index.{order_of}
-use Rattle.quanta_words.proofs.IndexLaws.{order_less, order_above, order_more, order_short, order_first, order_same}
 use Rattle.quanta_words.proofs.index.order.Given as goal
 
 abbrev pub invariant-loop-i : goal.invariant-loop-i

@@ -1,6 +1,5 @@
 use mathlib.Core.Path.{ap, sym, ◌∙◌}
 use borrow.Author.Tests.{lt-ltb, le-ltb}
-use borrow.Author.Rules.{rules}
 use Rattle.quanta_words.specs.Index.{order_at, order_of}
 use Rattle.quanta_words.proofs.WordLaws.{word_part}
 use Rattle.quanta_words.proofs.index.order_at.Goals as goal

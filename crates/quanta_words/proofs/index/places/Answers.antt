@@ -1,8 +1,5 @@
-use borrow.Author.Rules.{rules}
 use native.Mathlib.Omega.{arith}
-use Prim.Native.Nat.{◌≤◌, ◌-◌}
-use mathlib.Core.Path.{◌≡◌}
-use lib.ListN.{length, length-set}
+use lib.ListN.{length-set}
 use Rattle.quanta_words.proofs.index.places.Goals as goal
 
 pub loop-i-preserved : goal.loop-i-preserved

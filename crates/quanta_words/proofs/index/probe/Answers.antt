@@ -1,9 +1,9 @@
-use Prim.Native.Nat.{ℕ, suc, ◌+◌, ◌-◌, ◌/◌, ◌≤◌, ◌<◌}
-use mathlib.Core.Path.{◌≡◌, refl, sym, ap, ◌∙◌}
-use lib.ListN.{length, get_or}
+use Prim.Native.Nat.{suc}
+use mathlib.Core.Path.{refl, sym, ap, ◌∙◌}
+use lib.ListN.{length}
 use native.Mathlib.Omega.{arith}
 use borrow.Author.Rules.{rules}
-use Rattle.quanta_words.specs.Index.{order_at, probe_of, probe_from}
+use Rattle.quanta_words.specs.Index.{order_at, probe_of}
 use Rattle.quanta_words.proofs.IndexLaws.{probe_past, probe_hit, probe_left, probe_right}
 use Rattle.quanta_words.proofs.index.probe.Goals as goal
 

@@ -1,10 +1,7 @@
-use Prim.Native.Nat.{ℕ, suc, ◌+◌, ◌-◌, ◌/◌, ◌≤◌, ◌<◌}
-use mathlib.Core.Path.{◌≡◌, refl, sym, ap, ◌∙◌}
-use lib.ListN.{length, get_or}
-use native.Mathlib.Omega.{arith}
-use borrow.Author.Rules.{rules}
-use Rattle.quanta_words.specs.Index.{order_at, probe_of, probe_from}
-use Rattle.quanta_words.proofs.IndexLaws.{probe_past, probe_hit, probe_left, probe_right}
+use Prim.Native.Nat.{ℕ, ◌+◌, ◌-◌, ◌≤◌, ◌<◌}
+use mathlib.Core.Path.{◌≡◌}
+use lib.ListN.{length}
+use Rattle.quanta_words.specs.Index.{probe_of, probe_from}
 use Rattle.quanta_words.proofs.index.probe.Given as goal
 
 abbrev pub invariant-loop-lo : goal.invariant-loop-lo

@@ -1,7 +1,5 @@
 use mathlib.Core.Path.{sym, ap, ◌∙◌}
 use lib.ListN.{get_or}
-use borrow.Author.Tests.{not-true}
-use borrow.Author.Rules.{rules}
 use Rattle.quanta_words.proofs.lookup.is_forbidden.Goals as goal
 
 pub returns-then-seen-k-eq0 : goal.returns-then-seen-k-eq0

@@ -1,12 +1,11 @@
-use Prim.Native.Nat.{ℕ, suc, ◌+◌, ◌≤◌, ◌<◌, ◌-◌}
+use Prim.Native.Nat.{suc}
 use mathlib.Core.Path.{◌≡◌, refl, sym, ap, ◌∙◌}
 use lib.ListN.{length, length-set}
 use native.Mathlib.Omega.{arith}
-use borrow.Author.Rules.{rules}
-use Rattle.quanta_words.specs.Words.{held_in, word_at}
+use Rattle.quanta_words.specs.Words.{word_at}
 use Rattle.quanta_words.specs.Lookup.{key_of}
 use Rattle.quanta_words.proofs.WordLaws.{held_all, held_stop, word_part}
-use Rattle.quanta_words.proofs.LookupLaws.{Sifted, sift_more}
+use Rattle.quanta_words.proofs.LookupLaws.{sift_more}
 use Rattle.quanta_words.proofs.lookup.sift.Goals as goal
 
 pub loop-seen-init : goal.loop-seen-init

@@ -1,12 +1,7 @@
-use Prim.Native.Nat.{ℕ, suc, ◌+◌, ◌≤◌, ◌<◌, ◌-◌}
-use mathlib.Core.Path.{◌≡◌, refl, sym, ap, ◌∙◌}
-use lib.ListN.{length, length-set}
-use native.Mathlib.Omega.{arith}
-use borrow.Author.Rules.{rules}
-use Rattle.quanta_words.specs.Words.{held_in, word_at}
-use Rattle.quanta_words.specs.Lookup.{key_of}
-use Rattle.quanta_words.proofs.WordLaws.{held_all, held_stop, word_part}
-use Rattle.quanta_words.proofs.LookupLaws.{Sifted, sift_more}
+use Prim.Native.Nat.{ℕ, ◌+◌, ◌≤◌, ◌<◌, ◌-◌}
+use mathlib.Core.Path.{◌≡◌}
+use lib.ListN.{length}
+use Rattle.quanta_words.proofs.LookupLaws.{Sifted}
 use Rattle.quanta_words.proofs.lookup.sift.Given as goal
 
 abbrev pub invariant-loop-seen : goal.invariant-loop-seen

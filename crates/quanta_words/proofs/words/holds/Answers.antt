@@ -1,12 +1,11 @@
-use Prim.Native.Nat.{ℕ, suc, ◌+◌, ◌≤◌, ◌<◌, ◌-◌}
+use Prim.Native.Nat.{suc}
 use mathlib.Core.Path.{◌≡◌, sym, ap, ◌∙◌}
 use mathlib.Core.Bool.{true, false}
 use lib.ListN.{length}
 use native.Mathlib.Omega.{arith}
-use borrow.Author.Rules.{rules}
 use Rattle.quanta_token.specs.Text.{same}
-use Rattle.quanta_words.specs.Words.{held_in, word_at}
-use Rattle.quanta_words.proofs.WordLaws.{held_from, held_all, held_stop, held_hit, held_more, word_part}
+use Rattle.quanta_words.specs.Words.{word_at}
+use Rattle.quanta_words.proofs.WordLaws.{held_all, held_stop, held_hit, held_more, word_part}
 use Rattle.quanta_words.proofs.words.holds.Goals as goal
 
 pub loop-i-init : goal.loop-i-init

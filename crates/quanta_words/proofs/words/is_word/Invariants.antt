@@ -1,11 +1,8 @@
-use borrow.Author.Rules.{rules}
-use Prim.Native.Nat.{◌≤◌, ◌-◌}
-use mathlib.Core.Path.{◌≡◌, sym, ap, ◌∙◌}
+use Prim.Native.Nat.{◌-◌}
+use mathlib.Core.Path.{◌≡◌}
 use lib.ListN.{length, drop}
-use borrow.Author.Tests.{not-true, not-false}
-use Rattle.quanta_token.specs.Bytes.{word_start, word_byte}
+use Rattle.quanta_token.specs.Bytes.{word_byte}
 use Rattle.quanta_words.specs.Words.{all, is_word}
-use Rattle.quanta_words.proofs.WordLaws.{word_starts, word_none, all_more, all_stop, all_past}
 use Rattle.quanta_words.proofs.words.is_word.Given as goal
 
 abbrev pub invariant-loop-i : goal.invariant-loop-i

@@ -3,7 +3,6 @@ use Prim.Native.Nat.{◌≤◌}
 use mathlib.Core.Path.{sym, ap, ◌∙◌}
 use lib.ListN.{length}
 use borrow.Author.Tests.{le-leb}
-use borrow.Author.Rules.{rules}
 use Rattle.quanta_words.specs.Words.{is_word, after_at, record_at}
 use Rattle.quanta_words.proofs.WordLaws.{record_short, word_part}
 use Rattle.quanta_words.proofs.words.record_at.Goals as goal
