@@ -1,0 +1,13 @@
+use native.Mathlib.Omega.{arith}
+use borrow.Author.Rules.{rules}
+use Prim.Native.Nat.{◌-◌}
+use mathlib.Core.Path.{refl}
+use mathlib.Core.Logic.{⊎_elim}
+use Rattle.quanta_text.proofs.PlaceLaws.{Counted, counts_feed, counts_byte, counted, above}
+use Rattle.quanta_text.proofs.place.place.Given as goal
+
+abbrev pub invariant-loop-i : goal.invariant-loop-i
+invariant-loop-i l = Counted l.src l.offset l.i l.feeds l.since
+
+abbrev pub decreases-loop-i : goal.decreases-loop-i
+decreases-loop-i l = l.offset - l.i
