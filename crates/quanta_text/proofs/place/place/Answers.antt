@@ -1,8 +1,6 @@
 use native.Mathlib.Omega.{arith}
-use borrow.Author.Rules.{rules}
-use Prim.Native.Nat.{◌-◌}
 use mathlib.Core.Path.{refl}
-use Rattle.quanta_text.proofs.PlaceLaws.{Counted, counts_feed, counts_byte, counted, above}
+use Rattle.quanta_text.proofs.PlaceLaws.{counts_feed, counts_byte, counted, above}
 use Rattle.quanta_text.proofs.place.place.Goals as goal
 use Rattle.quanta_text.proofs.place.place.Goals.{then-src-i-eq10, else-src-i-eq10}
 

@@ -1,9 +1,5 @@
-use native.Mathlib.Omega.{arith}
-use borrow.Author.Rules.{rules}
 use Prim.Native.Nat.{◌-◌}
-use mathlib.Core.Path.{refl}
-use mathlib.Core.Logic.{⊎_elim}
-use Rattle.quanta_text.proofs.PlaceLaws.{Counted, counts_feed, counts_byte, counted, above}
+use Rattle.quanta_text.proofs.PlaceLaws.{Counted}
 use Rattle.quanta_text.proofs.place.place.Given as goal
 
 abbrev pub invariant-loop-i : goal.invariant-loop-i
