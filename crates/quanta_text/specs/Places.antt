@@ -1,5 +1,5 @@
 -- Line and column of an offset.
-use Rattle.std.specs.Prelude.{ℕ, suc, ◌+◌, Bool, true, false, cond, List, [], ◌∷◌, eqb, leb, length, take}
+use Rattle.std.specs.Prelude.{ℕ, ◌+◌, cond, List, [], ◌∷◌, eqb, leb, length, take}
 use Rattle.quanta_text.specs.declared.place.LineColumn.{LineColumn}
 
 abbrev pub LF : ℕ

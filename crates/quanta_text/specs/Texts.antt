@@ -1,5 +1,5 @@
 -- The text of a token.
-use Rattle.std.specs.Prelude.{ℕ, ◌+◌, ◌-◌, Bool, true, false, cond, ◌&&◌, List, [], eqb, leb, length, take, drop}
+use Rattle.std.specs.Prelude.{ℕ, ◌+◌, ◌-◌, cond, ◌&&◌, List, [], eqb, leb, length, take, drop}
 use Rattle.quanta_token.specs.TokenKind.{code, Str, Date}
 
 -- what is taken off before a text: a quote of a Str, the `@` of a Date

@@ -1,5 +1,5 @@
 -- A search through an index of the word table, step by step as the code makes it; and what an index must do.
-use Rattle.std.specs.Prelude.{ℕ, zero, suc, ◌+◌, ◌-◌, ◌/◌, ◌<◌, Bool, true, false, cond, List, [], ◌∷◌, ◌≡◌, length, get_or, eqb, ltb, leb}
+use Rattle.std.specs.Prelude.{ℕ, zero, suc, ◌+◌, ◌-◌, ◌/◌, ◌<◌, Bool, true, false, cond, List, [], ◌∷◌, ◌≡◌, length, get_or, eqb, ltb}
 use Rattle.quanta_words.specs.Words.{after_at, word_at, held_in}
 
 -- 0, 1 or 2: the first comes before the second, is it, comes after it
