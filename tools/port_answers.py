@@ -74,6 +74,16 @@ class Walk:
         return re.sub(r"(?<![\w.'₀-₉-])" + re.escape(var) + r"(?![\w'₀-₉-])" + PATH, one, text)
 
 
+def renamed_behind_aliases(text):
+    """What stands behind a module's other name, as `pr.moreArgs`, gets the spelling of tools/port_names.tsv."""
+    here = os.path.join(os.path.dirname(os.path.abspath(__file__)), "port_names.tsv")
+    with open(here, encoding="utf-8") as f:
+        rows = dict(line.rstrip("\n").split("\t") for line in f)
+    for alias in re.findall(r"^use Rattle\.[^\s{]+ as ([\w-]+)$", text, re.M):
+        text = re.sub(r"(?<![\w.-])(%s\.)([\w'-]+)" % re.escape(alias), lambda m: m.group(1) + rows.get(m.group(2), m.group(2)), text)
+    return text
+
+
 def blocks(text):
     """The head (comments and imports), and each declaration with the comments above it."""
     lines = text.split("\n")
@@ -150,7 +160,7 @@ def align(olds, news):
 
 def turn(crate, path, function, told, lost):
     with open(path, encoding="utf-8") as f:
-        text = f.read()
+        text = renamed_behind_aliases(f.read())
     walk = Walk(told, crate + "::" + function)
     head, decls = blocks(text)
     needs, invariants, helpers = [], [], []
@@ -173,7 +183,7 @@ def turn(crate, path, function, told, lost):
         text = "\n".join(block).rstrip("\n")
         m = re.search(r"^%s ([\w₀-₉']+)((?: [^\s=]+)*) =" % re.escape(name), text, re.M)
         if i not in at:
-            if not text.endswith("= search rules"):
+            if not text.endswith("= search rules") and not old.startswith("same-length"):
                 walk.lost.append("%s: no goal for %s" % (walk.where, old))
                 answers.append("-- no goal: " + text.replace("\n", "\n-- "))
             continue
@@ -231,6 +241,98 @@ def turn(crate, path, function, told, lost):
     lost += walk.lost
 
 
+
+
+def by_place(path, params):
+    """The parameter that a path through nested pairs leads to."""
+    steps = path.split(".")
+    n = 0
+    while steps[n] == "1":
+        n += 1
+    return ".".join([params[n]] + steps[n + 1 :])
+
+
+def turn_cycle(crate, path, cycle, told, lost):
+    """The one walk of a cycle of calls: `unary-peek-requires : (t : ℕ) → unary-lts.Need-peek-requires ..` and measures `μ-unary`."""
+    with open(path, encoding="utf-8") as f:
+        text = renamed_behind_aliases(f.read())
+    head, decls = blocks(text)
+    members = {}
+    params = {}
+    for key, value in told.items():
+        if ".%s.Lts-" % cycle in key:
+            members[key.split(".Lts-")[1]] = Walk(value, key)
+        if isinstance(value, dict):
+            params.update({k.split("::")[-1]: v for k, v in (value.get("params") or {}).items()})
+    dashes = {dashed(m): m for m in members}
+    needs = {m: [] for m in members}
+    invariants, measures, helpers = [], [], []
+    for block in decls:
+        line = next(l for l in block if SIGNATURE.match(l))
+        _, name, kind = SIGNATURE.match(line).groups()
+        joined = " ".join(block)
+        m = re.match(r"(?:\(t : ℕ\) → )?([\w-]+?)-lts\.Need-([\w-]+)", kind)
+        if m:
+            needs[dashes[dashed(m.group(1))]].append((name, m.group(2), block))
+        elif re.match(r"[\w-]+-lts\.(invariant|decreases)-", kind):
+            invariants.append((dashes[dashed(re.match(r"([\w-]+?)-lts", kind).group(1))], name, block))
+        elif name.startswith("μ-") and "Measures" in kind:
+            measures.append((dashes[dashed(name[2:])], block))
+        elif re.search(r"statement M|\.Claims|: ℕ → In |close", joined):
+            continue
+        else:
+            helpers.append(block)
+    base = "Rattle.%s.proofs.%s" % (crate, cycle)
+    uses = [l for l in head if l.startswith("use ")]
+    uses = [l for l in uses if not re.search(r"\.(Reads|Kinds) as |Lts-|\{statement\}|Tie\.\{close\}|borrow\.Fn", l)]
+    made = []
+    for member, block in measures:
+        body = "\n".join(block).split(" =", 1)[1].rstrip()
+        body = re.sub(r"\ba\.((?:1\.)*0)\b", lambda m: "l." + by_place(m.group(1), params[member]), body)
+        made.append("abbrev pub decreases-%s : goal.decreases-%s\ndecreases-%s l =%s" % (member, member, member, body))
+    for member, name, block in invariants:
+        walk = members[member]
+        kind = "invariant" if any("-lts.invariant-" in l for l in block) else "decreases"
+        old = "loop"
+        lines = [re.sub(r"^%s\b" % re.escape(name), "%s-%s" % (kind, old), l) for l in block]
+        one = invariant(walk, lines, kind).rstrip("\n")
+        made.append(one.replace("%s-loop" % kind, "%s-%s-loop" % (kind, member)))
+    out = uses + ["use %s.Given as goal" % base, "", "\n\n".join(made), ""]
+    folder = os.path.dirname(path)
+    with open(os.path.join(folder, "Invariants.antt"), "w", encoding="utf-8") as f:
+        f.write("\n".join(out))
+    answers = []
+    for member, walk in members.items():
+        at = align([n[1] for n in needs[member]], walk.told["needs"])
+        for i, (name, old, block) in enumerate(needs[member]):
+            text = "\n".join(block).rstrip("\n")
+            if text.endswith("search rules"):
+                continue
+            if i not in at:
+                if old.startswith("same-length"):
+                    continue
+                walk.lost.append("%s: no goal for %s" % (walk.where, old))
+                answers.append("-- no goal: " + text.replace("\n", "\n-- "))
+                continue
+            new = walk.told["stem"] + walk.told["needs"][at[i]][1]
+            place = walk.places[dashed(walk.told["asked_at"][at[i]][0])]
+            m = re.search(r"^%s t ([\w₀-₉']+)((?: [^\s=]+)*) =" % re.escape(name), text, re.M)
+            if not m:
+                walk.lost.append("%s: no clause of %s" % (walk.where, name))
+                continue
+            body = let_places(walk, text[m.end() :], place)
+            body = walk.body(body, place, m.group(1))
+            body = re.sub(r"not[-_](?:true|false) _ (c\.if-[\w.₀-₉-]+)", r"\1", body)
+            answers.append("pub %s : goal.%s\n%s t c =%s" % (new, new, new, body))
+        lost += walk.lost
+    mine = "\n\n".join("\n".join(b).rstrip("\n") for b in helpers)
+    out = [l for l in head if l.startswith("--")] + uses + ["use %s.Goals as goal" % base, ""] + ([mine, ""] if mine else [])
+    out += ["\n\n".join(answers), ""]
+    with open(os.path.join(folder, "Answers.antt"), "w", encoding="utf-8") as f:
+        f.write("\n".join(out))
+    os.remove(path)
+
+
 def main():
     crate, names = sys.argv[1:3]
     only = sys.argv[3:]
@@ -239,10 +341,13 @@ def main():
     top = os.path.join("crates", crate, "proofs")
     lost = []
     for folder, _, files in sorted(os.walk(top)):
-        if "Proof.antt" not in files or "+" in folder:
+        if "Proof.antt" not in files:
             continue
         function = os.path.relpath(folder, top).replace(os.sep, ".")
         if only and function not in only:
+            continue
+        if "+" in folder:
+            turn_cycle(crate, os.path.join(folder, "Proof.antt"), function, told, lost)
             continue
         key = "Rattle-%s-proofs.%s.Lts" % (crate, function)
         if key not in told:

@@ -18,6 +18,8 @@ COMMENT = re.compile(r"(?m)(?<![^\s(){}.;,])--.*$")
 KEYWORDS = {"use", "let", "in", "module", "where", "infix", "infixl", "infixr"}
 # Lemmas that were in snake case already and have the name that a definition gets.
 LEMMAS = {"plain_at": "plain_at_lem"}
+# Ours that port.py spells by a library's word, and a production with a lemma's name.
+OWN = {"Signed-by": "signed_by", "is_Signed": "is_signed", "no-default": "no_default"}
 # Productions that would have their symbol's name.
 PRODUCTIONS = {"type-name": "named_type", "type-args": "some_type_args", "type-arg": "type_as_arg", "of-int": "some_of"}
 
@@ -67,7 +69,7 @@ def table():
             names |= declared(path)
     old = sorted(n for n in names if is_old(n))
     camel = {spelled(n) for n in old if "-" not in n}
-    rows = dict(LEMMAS | PRODUCTIONS)
+    rows = dict(LEMMAS | PRODUCTIONS | OWN)
     for n in old:
         if n in rows:
             continue

@@ -13,7 +13,7 @@ use Rattle.quanta_grammar.specs.Productions.{stmts, stmt, subject, tail, expr, l
 use Rattle.quanta_grammar.specs.Productions.{type, type_args, type_arg, more_type_args, of_int}
 use Rattle.quanta_grammar.specs.Productions.{whole_program, whole_item, whole_stmt, whole_expr, whole_type, an_import, no_import, import_decl, another_import, import_end, a_contract, no_contract, contract_decl, an_item}
 use Rattle.quanta_grammar.specs.Productions.{no_item, asset_decl, state_block, genesis_block, invariant_decl, event_decl, entry_decl, braces, a_field, no_field, field_decl, meta, no_meta, a_default}
-use Rattle.quanta_grammar.specs.Productions.{no_default_lem, parens, some_params, no_params, another_param, param_end, param_decl, sealed, no_sealed, SignedBy, no_signed, a_clause, no_clause, writes}
+use Rattle.quanta_grammar.specs.Productions.{no_default, parens, some_params, no_params, another_param, param_end, param_decl, sealed, no_sealed, signed_by, no_signed, a_clause, no_clause, writes}
 use Rattle.quanta_grammar.specs.Productions.{reads, conserves, mints, burns, limits, denies, after_expr, after_duration, another_name, name_end, int_unit, from_expr, no_from, a_stmt}
 use Rattle.quanta_grammar.specs.Productions.{no_stmt, guard_stmt, let_stmt, emit_stmt, assign_or_expr_stmt, subject_expr, assign_tail, semi_tail, top, operands, link, link_end, prefix, no_prefix}
 use Rattle.quanta_grammar.specs.Productions.{chain, a_suffix, no_suffix, dot_name, call, some_args, no_args, another_arg, arg_end, atom, in_parens, in_checked, in_wrapping, named_type}
@@ -66,13 +66,13 @@ guide block = only braces
 guide fields = on_of closing no_field ∷ [] otherwise a_field
 guide field = only field_decl
 guide meta_opt = on Meta meta ∷ [] otherwise no_meta
-guide default = on Eq a_default ∷ [] otherwise no_default_lem
+guide default = on Eq a_default ∷ [] otherwise no_default
 guide param_list = only parens
 guide params = on RParen no_params ∷ [] otherwise some_params
 guide more_params = on Comma another_param ∷ [] otherwise param_end
 guide param = only param_decl
 guide sealed_opt = on Sealed sealed ∷ [] otherwise no_sealed
-guide signed_opt = on Signed SignedBy ∷ [] otherwise no_signed
+guide signed_opt = on Signed signed_by ∷ [] otherwise no_signed
 -- clauses
 guide clauses = on_of clause_start a_clause ∷ [] otherwise no_clause
 guide clause =

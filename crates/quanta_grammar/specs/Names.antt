@@ -13,7 +13,7 @@ use Rattle.quanta_grammar.specs.Productions.{stmts, stmt, subject, tail, expr, l
 use Rattle.quanta_grammar.specs.Productions.{type, type_args, type_arg, more_type_args, of_int}
 use Rattle.quanta_grammar.specs.Productions.{whole_program, whole_item, whole_stmt, whole_expr, whole_type, an_import, no_import, import_decl, another_import, import_end, a_contract, no_contract, contract_decl, an_item}
 use Rattle.quanta_grammar.specs.Productions.{no_item, asset_decl, state_block, genesis_block, invariant_decl, event_decl, entry_decl, braces, a_field, no_field, field_decl, meta, no_meta, a_default}
-use Rattle.quanta_grammar.specs.Productions.{no_default_lem, parens, some_params, no_params, another_param, param_end, param_decl, sealed, no_sealed, SignedBy, no_signed, a_clause, no_clause, writes}
+use Rattle.quanta_grammar.specs.Productions.{no_default, parens, some_params, no_params, another_param, param_end, param_decl, sealed, no_sealed, signed_by, no_signed, a_clause, no_clause, writes}
 use Rattle.quanta_grammar.specs.Productions.{reads, conserves, mints, burns, limits, denies, after_expr, after_duration, another_name, name_end, int_unit, from_expr, no_from, a_stmt}
 use Rattle.quanta_grammar.specs.Productions.{no_stmt, guard_stmt, let_stmt, emit_stmt, assign_or_expr_stmt, subject_expr, assign_tail, semi_tail, top, operands, link, link_end, prefix, no_prefix}
 use Rattle.quanta_grammar.specs.Productions.{chain, a_suffix, no_suffix, dot_name, call, some_args, no_args, another_arg, arg_end, atom, in_parens, in_checked, in_wrapping, named_type}
@@ -134,7 +134,7 @@ rule_place field field_decl = at 0 refl
 rule_place meta_opt meta = at 0 refl
 rule_place meta_opt no_meta = at 1 refl
 rule_place default a_default = at 0 refl
-rule_place default no_default_lem = at 1 refl
+rule_place default no_default = at 1 refl
 rule_place param_list parens = at 0 refl
 rule_place params no_params = at 0 refl
 rule_place params some_params = at 1 refl
@@ -143,7 +143,7 @@ rule_place more_params param_end = at 1 refl
 rule_place param param_decl = at 0 refl
 rule_place sealed_opt sealed = at 0 refl
 rule_place sealed_opt no_sealed = at 1 refl
-rule_place signed_opt SignedBy = at 0 refl
+rule_place signed_opt signed_by = at 0 refl
 rule_place signed_opt no_signed = at 1 refl
 rule_place clauses a_clause = at 0 refl
 rule_place clauses no_clause = at 1 refl

@@ -54,13 +54,13 @@ node_code call_node = 40
 -- the flags of a field, a parameter and an `after`, two for each
 pub data Flag : Type 0 where
   is_meta has_default : Flag
-  is_sealed is_Signed : Flag
+  is_sealed is_signed : Flag
   has_from has_duration : Flag
 
 abbrev pub flag_code : Flag → ℕ
 flag_code is_meta = 1
 flag_code has_default = 2
 flag_code is_sealed = 1
-flag_code is_Signed = 2
+flag_code is_signed = 2
 flag_code has_from = 1
 flag_code has_duration = 2

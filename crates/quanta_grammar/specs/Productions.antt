@@ -11,7 +11,7 @@ use Rattle.quanta_token.specs.TokenKind.{LBrace, RBrace, LParen, RParen, Comma, 
 use Rattle.quanta_token.specs.TokenKind.{Lt, Gt, Le, Ge, EqEq, Ne, Bang, AndAnd, OrOr, Shr}
 use Rattle.quanta_token.specs.TokenKind.{Eof}
 use Rattle.quanta_grammar.specs.FineKind.{fine, OfWord, UnitWord, AfterSpan, TwoClosers, OneCloser}
-use Rattle.quanta_grammar.specs.NodeKind.{NodeKind, node_code, Flag, flag_code, is_meta, has_default, is_sealed, is_Signed, has_from, has_duration}
+use Rattle.quanta_grammar.specs.NodeKind.{NodeKind, node_code, Flag, flag_code, is_meta, has_default, is_sealed, is_signed, has_from, has_duration}
 use Rattle.quanta_grammar.specs.NodeKind.{program_node, import_node, contract_node, asset_node, state_node, genesis_node, invariant_node, event_node, entry_node, field_node}
 use Rattle.quanta_grammar.specs.NodeKind.{param_node, writes_node, reads_node, conserves_node, mints_node, burns_node, limits_node, denies_node, after_node, type_node}
 use Rattle.quanta_grammar.specs.NodeKind.{m_of_n_node, guard_node, let_node, emit_node, assign_node, expr_node, name_node, int_node, date_node, str_node}
@@ -51,13 +51,13 @@ pub data Production : Symbol → Type 0 where
   a_field no_field : Production fields
   field_decl : Production field
   meta no_meta : Production meta_opt
-  a_default no_default_lem : Production default
+  a_default no_default : Production default
   parens : Production param_list
   some_params no_params : Production params
   another_param param_end : Production more_params
   param_decl : Production param
   sealed no_sealed : Production sealed_opt
-  SignedBy no_signed : Production signed_opt
+  signed_by no_signed : Production signed_opt
   a_clause no_clause : Production clauses
   writes reads conserves mints burns limits denies after_expr after_duration : Production clause
   another_name name_end : Production more_names
@@ -212,7 +212,7 @@ rule field field_decl = fold meta_opt ∷ word_of name ∷ own Colon ∷ sub typ
 rule meta_opt meta = tok Meta ∷ plus is_meta ∷ []
 rule meta_opt no_meta = []
 rule default a_default = tok Eq ∷ sub expr ∷ plus has_default ∷ []
-rule default no_default_lem = []
+rule default no_default = []
 rule param_list parens = tok LParen ∷ sub params ∷ tok RParen ∷ []
 rule params some_params = sub param ∷ fold more_params ∷ []
 rule params no_params = []
@@ -221,7 +221,7 @@ rule more_params param_end = []
 rule param param_decl = word_of name ∷ own Colon ∷ fold sealed_opt ∷ last (sub type) ∷ fold signed_opt ∷ start ∷ make param_node ∷ []
 rule sealed_opt sealed = tok Sealed ∷ plus is_sealed ∷ []
 rule sealed_opt no_sealed = []
-rule signed_opt SignedBy = tok Signed ∷ tok By ∷ last (word_of name) ∷ plus is_Signed ∷ []
+rule signed_opt signed_by = tok Signed ∷ tok By ∷ last (word_of name) ∷ plus is_signed ∷ []
 rule signed_opt no_signed = []
 -- clauses
 rule clauses a_clause = sub clause ∷ fold clauses ∷ []

@@ -12,7 +12,7 @@ use Rattle.grammar.proofs.Lines.{mark}
 use Rattle.quanta_token.specs.TokenKind.{code, Colon, Meta, Eq, Semi}
 use Rattle.quanta_grammar.specs.NodeKind.{node_code, name_node, field_node, flag_code, is_meta, has_default}
 use Rattle.quanta_grammar.specs.RefusalKind.{refusal_code, expected_token, expected_identifier}
-use Rattle.quanta_grammar.specs.Productions.{outs, name, expr, type, field, meta_opt, default, field_decl, meta, no_meta, a_default, no_default_lem}
+use Rattle.quanta_grammar.specs.Productions.{outs, name, expr, type, field, meta_opt, default, field_decl, meta, no_meta, a_default, no_default}
 use Rattle.quanta_grammar.specs.Reading.{plan, reads}
 use Rattle.quanta_cursor.specs.declared.parser.TokenPos.{TokenPos}
 use Rattle.quanta_cursor.specs.declared.parser.Span.{Span}
@@ -53,11 +53,11 @@ meta_keyword =
 -- THE DEFAULT
 module _ (src : Text) (ws : List ℕ) (a : ℕ) {i n : ℕ} (g : Ready ws i n) (x : Acc) where
   pub default_missing : (kind_at ws i ≡ code Eq → ⊥) → reads default a (from src ws i) x ≡ left x (from src ws i)
-  default_missing u = over (begin src ws i g.inside default no_default_lem a x (skips (code Eq ∷ []) a_default [] (use' no_default_lem) tt src ws i (not_one (code Eq) u)) refl)
+  default_missing u = over (begin src ws i g.inside default no_default a x (skips (code Eq ∷ []) a_default [] (use' no_default) tt src ws i (not_one (code Eq) u)) refl)
 
   module _ (u : kind_at ws i ≡ code Eq) {p : ℕ} (e : p ≡ i + 1) where
     default_key : Doing (reads default a (from src ws i) x) src ws (tok_at src ws i) (mark nothing pass apart (plus (flag_code has_default) ∷ []) ∷ []) (sub expr ∷ []) a p x
-    default_key = eat (begin src ws i g.inside default a_default a x (picks (code Eq ∷ []) a_default [] (use' no_default_lem) tt src ws i (is_one (code Eq) u)) refl) tt g.inside (is_one (code Eq) u) e
+    default_key = eat (begin src ws i g.inside default a_default a x (picks (code Eq ∷ []) a_default [] (use' no_default) tt src ws i (is_one (code Eq) u)) refl) tt g.inside (is_one (code Eq) u) e
 
     pub default_past : Ready ws p n
     default_past = ready_past g (past_as (code Eq) (λ u. u) g.closed g.inside u) e

@@ -11,9 +11,9 @@ use Rattle.grammar.specs.Reader.{use', miss}
 use Rattle.grammar.specs.Fused.{Outcome, left}
 use Rattle.grammar.proofs.Lines.{mark}
 use Rattle.quanta_token.specs.TokenKind.{code, Colon, Sealed, Signed, By, LParen, RParen}
-use Rattle.quanta_grammar.specs.NodeKind.{node_code, name_node, param_node, flag_code, is_sealed, is_Signed}
+use Rattle.quanta_grammar.specs.NodeKind.{node_code, name_node, param_node, flag_code, is_sealed, is_signed}
 use Rattle.quanta_grammar.specs.RefusalKind.{refusal_code, expected_token, expected_identifier}
-use Rattle.quanta_grammar.specs.Productions.{outs, name, type, param, params, more_params, param_list, sealed_opt, signed_opt, param_decl, parens, some_params, no_params, sealed, no_sealed, SignedBy, no_signed}
+use Rattle.quanta_grammar.specs.Productions.{outs, name, type, param, params, more_params, param_list, sealed_opt, signed_opt, param_decl, parens, some_params, no_params, sealed, no_sealed, signed_by, no_signed}
 use Rattle.quanta_grammar.specs.Reading.{plan, reads}
 use Rattle.quanta_cursor.specs.declared.parser.TokenPos.{TokenPos}
 use Rattle.quanta_cursor.specs.declared.parser.Span.{Span}
@@ -64,11 +64,11 @@ sealed_keyword =
 -- THE SIGNER
 module _ (src : Text) (ws : List ℕ) (a : ℕ) {i n : ℕ} (g : Ready ws i n) (x : Acc) where
   pub signer_missing : (kind_at ws i ≡ code Signed → ⊥) → reads signed_opt a (from src ws i) x ≡ left x (from src ws i)
-  signer_missing u = over (begin src ws i g.inside signed_opt no_signed a x (skips (code Signed ∷ []) SignedBy [] (use' no_signed) tt src ws i (not_one (code Signed) u)) refl)
+  signer_missing u = over (begin src ws i g.inside signed_opt no_signed a x (skips (code Signed ∷ []) signed_by [] (use' no_signed) tt src ws i (not_one (code Signed) u)) refl)
 
   module _ (u : kind_at ws i ≡ code Signed) {p : ℕ} (e : p ≡ i + 1) where
-    signer_key : Doing (reads signed_opt a (from src ws i) x) src ws (tok_at src ws i) (mark nothing pass apart [] ∷ mark word pass replaces (plus (flag_code is_Signed) ∷ []) ∷ []) (one (code By ∷ []) ∷ one name ∷ []) a p x
-    signer_key = eat (begin src ws i g.inside signed_opt SignedBy a x (picks (code Signed ∷ []) SignedBy [] (use' no_signed) tt src ws i (is_one (code Signed) u)) refl) tt g.inside (is_one (code Signed) u) e
+    signer_key : Doing (reads signed_opt a (from src ws i) x) src ws (tok_at src ws i) (mark nothing pass apart [] ∷ mark word pass replaces (plus (flag_code is_signed) ∷ []) ∷ []) (one (code By ∷ []) ∷ one name ∷ []) a p x
+    signer_key = eat (begin src ws i g.inside signed_opt signed_by a x (picks (code Signed ∷ []) signed_by [] (use' no_signed) tt src ws i (is_one (code Signed) u)) refl) tt g.inside (is_one (code Signed) u) e
 
     pub signer_past : Ready ws p n
     signer_past = ready_past g (past_as (code Signed) (λ u. u) g.closed g.inside u) e
@@ -78,7 +78,7 @@ module _ (src : Text) (ws : List ℕ) (a : ℕ) {i n : ℕ} (g : Ready ws i n) (
       signer_byless z = let w = lacks_of z v in lack signer_key tt g.closed signer_past.inside (not_one (code By) w.0) tt w.1
 
       module _ {b : TokenPos} (z : y ≡ expected.Next b) where
-        signer_by : Doing (reads signed_opt a (from src ws i) x) src ws (tok_at src ws i) (mark word pass replaces (plus (flag_code is_Signed) ∷ []) ∷ []) (one name ∷ []) a b.0 x
+        signer_by : Doing (reads signed_opt a (from src ws i) x) src ws (tok_at src ws i) (mark word pass replaces (plus (flag_code is_signed) ∷ []) ∷ []) (one name ∷ []) a b.0 x
         signer_by = let w = next_of z v in eat signer_key tt signer_past.inside (is_one (code By) w.0) w.1
 
         pub by_ready : Ready ws b.0 n
@@ -88,10 +88,10 @@ module _ (src : Text) (ws : List ℕ) (a : ℕ) {i n : ℕ} (g : Ready ws i n) (
           pub signer_nameless : {w : Refusal} → y₁ ≡ parsed.Refused w → Failed (reads signed_opt a (from src ws i) x) w
           signer_nameless z₁ = let w = no_word_of z₁ v₁ in lack signer_by tt g.closed by_ready.inside w.0 tt w.1
 
-          pub signer_took : {m : Node} → y₁ ≡ parsed.Node m → TookOpt (reads signed_opt a (from src ws i) x) x replaces (flag_code is_Signed) src ws t n m t₁
+          pub signer_took : {m : Node} → y₁ ≡ parsed.Node m → TookOpt (reads signed_opt a (from src ws i) x) x replaces (flag_code is_signed) src ws t n m t₁
           signer_took {m} z₁ =
               let w = word_of z₁ v₁ in
-              subst (λ (m : Node). TookOpt (reads signed_opt a (from src ws i) x) x replaces (flag_code is_Signed) src ws t n m t₁) (sym w.1) (record {
+              subst (λ (m : Node). TookOpt (reads signed_opt a (from src ws i) x) x replaces (flag_code is_signed) src ws t n m t₁) (sym w.1) (record {
                 top = leaf_rec ws b.0 (node_code name_node);
                 below = none;
                 gave = over (eat_word_then name (node_code name_node) signer_by tt tt by_ready.inside w.0);
@@ -165,7 +165,7 @@ module _ (src : Text) (ws : List ℕ) (a : ℕ) {i n : ℕ} (g : Ready ws i n) {
               pub typed_ready : Ready ws d.at.0 d.no.0
               typed_ready = param_typed.ready
 
-              module _ {y₄ : Opted} {t₃ : List ℕ} (v₄ : Opts src signed_opt replaces (flag_code is_Signed) ws d.at.0 d.no.0 a t₂ y₄ t₃) where
+              module _ {y₄ : Opted} {t₃ : List ℕ} (v₄ : Opts src signed_opt replaces (flag_code is_signed) ws d.at.0 d.no.0 a t₂ y₄ t₃) where
                 pub param_missigned : {u : Refusal} → y₄ ≡ opted.Refused u → Failed (reads param a (from src ws i) fresh) u
                 param_missigned z₄ = fold_fails param_typed.doing (opt_failed_of z₄ (v₄ known))
 
@@ -184,7 +184,7 @@ module _ (src : Text) (ws : List ℕ) (a : ℕ) {i n : ℕ} (g : Ready ws i n) {
 
                 -- .. or with its signer
                 module _ {l : Node} (z₄ : y₄ ≡ opted.Node l) where
-                  j : TookOpt (reads signed_opt a (from src ws d.at.0) known) known replaces (flag_code is_Signed)
+                  j : TookOpt (reads signed_opt a (from src ws d.at.0) known) known replaces (flag_code is_signed)
                       src ws t₂ d.no.0 l t₃
                   j = opt_of z₄ (v₄ known)
 
@@ -195,7 +195,7 @@ module _ (src : Text) (ws : List ℕ) (a : ℕ) {i n : ℕ} (g : Ready ws i n) {
                       → EndsAt t₃ (node_code param_node) f m.at.0 (joined m.span l.span) 3 l r t₄
                       → Took (reads param a (from src ws i) fresh) src ws t n r t₄
                   param_signed {f} {r} {t₄} h c =
-                      let x : Acc = added replaces (flag_code is_Signed) known j.top j.below l.span in
+                      let x : Acc = added replaces (flag_code is_signed) known j.top j.below l.span in
                       let e : 0 + (0 + s.flag + 2) ≡ f = omega arith in
                       let u : Span = joined (span_at ws i) l.span in
                       ended_by u l param_typed.doing j.gave (laid_glue param_typed.laid j.laid)

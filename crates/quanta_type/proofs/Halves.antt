@@ -21,7 +21,7 @@ use Rattle.quanta_token.specs.declared.edition.Edition.{Edition}
 use Rattle.quanta_token.specs.declared.edition.Edition.TheVariants.{One, Two}
 use Rattle.quanta_grammar.specs.FineKind.{fine, OfWord, UnitWord, AfterSpan, TwoClosers, OneCloser}
 use Rattle.quanta_grammar.specs.RefusalKind.{refusal_code, expected_token, token_after_the_end}
-use Rattle.quanta_grammar.specs.Productions.{Symbol, grammar, outs, closer, default, no_default_lem, signed_opt, no_signed}
+use Rattle.quanta_grammar.specs.Productions.{Symbol, grammar, outs, closer, default, no_default, signed_opt, no_signed}
 use Rattle.quanta_grammar.specs.Reading.{targets, plan, reads}
 use Rattle.quanta_grammar.specs.Refine.{Text, text, of, units, spells, word_kind, text_of}
 use Rattle.quanta_grammar.specs.Refine.{in_edition, classify, span_here, plain_kind}
@@ -282,7 +282,7 @@ module _ (src : Text) (ws : List ℕ) (i : ℕ) where
       (unminded (targets.minds s) (targets.suits z (fine OneCloser)) h)
 
   no_default_here : (a : ℕ) (x : Acc) → reads default a (half_from src ws i) x ≡ left x (half_from src ws i)
-  no_default_here a x = over (begin default no_default_lem a (half_from src ws i) x refl refl)
+  no_default_here a x = over (begin default no_default a (half_from src ws i) x refl refl)
 
   no_signer_here : (a : ℕ) (x : Acc) → reads signed_opt a (half_from src ws i) x ≡ left x (half_from src ws i)
   no_signer_here a x = over (begin signed_opt no_signed a (half_from src ws i) x refl refl)
