@@ -165,8 +165,7 @@ def turn(crate, path, function, told, lost):
     head, decls = blocks(text)
     needs, invariants, helpers = [], [], []
     for block in decls:
-        line = next(l for l in block if SIGNATURE.match(l))
-        _, name, kind = SIGNATURE.match(line).groups()
+        name, kind = kind_of(block)
         m = re.match(r"tie\.Need-([\w-]+)", kind)
         if m:
             needs.append((name, m.group(1), block))
@@ -198,6 +197,7 @@ def turn(crate, path, function, told, lost):
             continue
         body = let_places(walk, text[m.end() :], place)
         body = walk.body(body, place, m.group(1))
+        body = re.sub(r"\.auto(?:\.[01])+\b", ".auto.tree", body)
         # What an `if` on `!x` tells is a fact about x today.
         body = re.sub(r"not[-_](?:true|false) _ (c\.if-[\w.₀-₉-]+)", r"\1", body)
         extra = [x for x in m.group(2).split() if x not in ("_", "κs", "q") or re.search(r"(?<![\w-])%s(?![\w-])" % x, body)]
@@ -243,6 +243,13 @@ def turn(crate, path, function, told, lost):
 
 
 
+def kind_of(block):
+    """The name and the type of a declaration, also where the type begins on the next line."""
+    at = next(i for i, l in enumerate(block) if SIGNATURE.match(l))
+    _, name, kind = SIGNATURE.match(block[at]).groups()
+    return name, kind or block[at + 1].strip()
+
+
 def by_place(path, params):
     """The parameter that a path through nested pairs leads to."""
     steps = path.split(".")
@@ -268,8 +275,7 @@ def turn_cycle(crate, path, cycle, told, lost):
     needs = {m: [] for m in members}
     invariants, measures, helpers = [], [], []
     for block in decls:
-        line = next(l for l in block if SIGNATURE.match(l))
-        _, name, kind = SIGNATURE.match(line).groups()
+        name, kind = kind_of(block)
         joined = " ".join(block)
         m = re.match(r"(?:\(t : ℕ\) → )?([\w-]+?)-lts\.Need-([\w-]+)", kind)
         if m:
@@ -323,6 +329,8 @@ def turn_cycle(crate, path, cycle, told, lost):
             body = let_places(walk, text[m.end() :], place)
             body = walk.body(body, place, m.group(1))
             body = re.sub(r"not[-_](?:true|false) _ (c\.if-[\w.₀-₉-]+)", r"\1", body)
+            body = re.sub(r"\.auto(?:\.[01])+\b", ".auto.tree", body)
+            body = body.replace("c.requires.0", "c.decreases").replace("c.requires.1", "c.requires")
             answers.append("pub %s : goal.%s\n%s t c =%s" % (new, new, new, body))
         lost += walk.lost
     mine = "\n\n".join("\n".join(b).rstrip("\n") for b in helpers)
