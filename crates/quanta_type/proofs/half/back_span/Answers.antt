@@ -1,6 +1,5 @@
 -- `quanta_type::half::back_span` meets its contract.
 -- Assumes nothing.
-use borrow.Author.Rules.{rules}
 use Rattle.quanta_type.proofs.half.back_span.Goals as goal
 
 pub returns : goal.returns

@@ -1,6 +1,5 @@
 -- `quanta_type::half::err_half` meets its contract.
 -- Assumes nothing.
-use borrow.Author.Rules.{rules}
 use Rattle.quanta_type.proofs.half.err_half.Goals as goal
 
 pub returns : goal.returns

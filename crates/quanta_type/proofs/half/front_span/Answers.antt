@@ -1,6 +1,5 @@
 -- `quanta_type::half::front_span` meets its contract.
 -- Assumes nothing.
-use borrow.Author.Rules.{rules}
 use Rattle.quanta_type.proofs.half.front_span.Goals as goal
 
 pub returns : goal.returns

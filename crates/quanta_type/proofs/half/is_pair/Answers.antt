@@ -6,7 +6,6 @@ use lib.Dec.{eqb}
 use Rattle.quanta_token.specs.TokenKind.{code, Shr}
 use Rattle.quanta_token.specs.declared.edition.Edition.{Edition}
 use Rattle.quanta_type.specs.Halves.{is_pair}
-use borrow.Author.Rules.{rules}
 use Rattle.quanta_type.proofs.half.is_pair.Goals as goal
 
 pub returns-in-Two : goal.returns-in-Two

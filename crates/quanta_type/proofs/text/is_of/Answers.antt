@@ -3,7 +3,6 @@
 use mathlib.Core.Path.{sym, ◌∙◌}
 use Rattle.quanta_grammar.specs.Refine.{text}
 use Rattle.quanta_type.proofs.Words.{of_word, not_of}
-use borrow.Author.Rules.{rules}
 use Rattle.quanta_type.proofs.text.is_of.Goals as goal
 
 pub returns-then-peek-ne-IDENT : goal.returns-then-peek-ne-IDENT

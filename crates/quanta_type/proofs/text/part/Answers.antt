@@ -3,7 +3,6 @@
 use mathlib.Core.Path.{sym}
 use native.Mathlib.Omega.{arith}
 use Rattle.quanta_type.proofs.Words.{part_none, part_rest, part_past}
-use borrow.Author.Rules.{rules}
 use Rattle.quanta_type.proofs.text.part.Goals as goal
 
 pub returns-then-end-start : goal.returns-then-end-start

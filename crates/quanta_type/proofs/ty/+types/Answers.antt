@@ -1,16 +1,14 @@
 -- A type, its arguments and an argument each answer what the grammar's reader gives. Each way through a reader cites
 -- one law.
 -- Assumes nothing.
-use Rattle.std.proofs.Common.{◌≡◌, ℕ, ◌+◌, ◌<◌, length, arith, sym, ◌∙◌, List}
+use Rattle.std.proofs.Common.{◌≡◌, ℕ, ◌+◌, arith, sym, ◌∙◌, List}
 use mathlib.Core.Logic.{◌⊎◌}
-use lib.Dec.{T}
-use Rattle.grammar.specs.Grammar.{has}
 use Rattle.grammar.specs.Records.{fresh}
-use Rattle.quanta_token.specs.TokenKind.{code, Int, Ident, Quorum, Lt}
-use Rattle.quanta_grammar.specs.Productions.{type_name, type_arg, more_type_args}
+use Rattle.quanta_token.specs.TokenKind.{code, Ident, Quorum}
+use Rattle.quanta_grammar.specs.Productions.{type_name}
 use Rattle.quanta_grammar.specs.Refine.{text}
-use Rattle.quanta_cursor.specs.Tokens.{size, kind_at, Ready}
-use Rattle.quanta_cursor.proofs.Places.{past_in, past_as, ready_past}
+use Rattle.quanta_cursor.specs.Tokens.{kind_at, Ready}
+use Rattle.quanta_cursor.proofs.Places.{past_in, ready_past}
 use Rattle.quanta_cursor.proofs.Meeting.{left_of, spent_of}
 use Rattle.quanta_cursor.proofs.Lists.{type_arguments}
 use Rattle.quanta_type.proofs.Types.{is_type_name, no_type_name, type_none, type_plain, type_bad, type_closed}

@@ -1,7 +1,6 @@
 -- `quanta_type::ty::close_args` meets its contract: `>`, the first closer of a `>>`, or no closer.
 -- Assumes nothing.
 use mathlib.Core.Path.{refl}
-use borrow.Author.Rules.{rules}
 use Rattle.quanta_cursor.proofs.Meeting.{next_of, lacks_of}
 use Rattle.quanta_type.proofs.Types.{up_to_as, yes_told, no_told}
 use Rattle.quanta_type.proofs.ty.close_args.Goals as goal

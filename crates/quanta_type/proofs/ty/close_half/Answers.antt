@@ -1,6 +1,5 @@
 -- `quanta_type::ty::close_half` meets its contract.
 -- Assumes nothing.
-use borrow.Author.Rules.{rules}
 use Rattle.quanta_type.proofs.Types.{up_to_as}
 use Rattle.quanta_type.proofs.ty.close_half.Goals as goal
 

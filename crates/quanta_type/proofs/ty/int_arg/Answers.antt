@@ -1,11 +1,9 @@
 -- `quanta_type::ty::int_arg` meets its contract: an integer alone, or m of n.
 -- Assumes nothing.
-use mathlib.Core.Path.{◌∙◌}
 use native.Mathlib.Omega.{arith}
 use Rattle.quanta_token.specs.declared.edition.Edition.TheVariants.{One}
 use Rattle.quanta_grammar.specs.Refine.{text}
 use Rattle.quanta_type.proofs.Types.{type_took, type_failed, arg_past, arg_alone, arg_ready, arg_bad, arg_few, arg_took}
-use borrow.Author.Rules.{rules}
 use Rattle.quanta_type.proofs.ty.int_arg.Goals as goal
 
 pub is_of-requires : goal.is_of-requires

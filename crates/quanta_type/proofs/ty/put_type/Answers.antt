@@ -5,7 +5,6 @@ use Rattle.quanta_grammar.specs.NodeKind.{node_code, type_node}
 use Rattle.quanta_cursor.specs.declared.parser.Span.{Span}
 use Rattle.quanta_cursor.specs.Cursor.{joined}
 use Rattle.quanta_cursor.proofs.Nodes.{words_are}
-use borrow.Author.Rules.{rules}
 use Rattle.quanta_type.proofs.ty.put_type.Goals as goal
 
 pub returns : goal.returns
