@@ -103,4 +103,4 @@ pub ty-returns-in_default : goal.ty-returns-in_default
 ty-returns-in_default t c =
     let g = c.requires in
     type_failed (type_none (text c.args.edition c.args.src.now) c.args.tokens.now c.args.at.0 c.args.allowance g.inside
-    g.closed (no_type_name c.peek.ensures (g.closed.known c.args.at.0 g.inside).1 c.in_default.in_default-own.rest.1) c.err.ensures)
+    g.closed (no_type_name c.peek.ensures (g.closed.known c.args.at.0 g.inside).1 (search)) c.err.ensures)
