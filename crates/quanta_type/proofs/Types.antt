@@ -1,7 +1,7 @@
 -- A type, and an argument of one: each way through their readers.
 -- Assumes nothing.
 use mathlib.Core.Path.{◌≡◌, refl, ap, sym, subst, ◌∙◌}
-use mathlib.Core.Bool.{Bool, true, false, not}
+use mathlib.Core.Bool.{Bool, true, false}
 use mathlib.Core.List.{List, [], ◌∷◌}
 use mathlib.Core.Logic.{◌⊎◌, ⊎_elim, inl, inr}
 use Prim.Native.Nat.{ℕ, ◌+◌, ◌-◌, ◌<◌, ◌≤◌, min, max}
@@ -326,13 +326,11 @@ module _ (src : Text) (ws : List ℕ) (at a : ℕ) (h : at < size ws) (c : Close
         (ap (λ (k : ℕ). single (m_of_nRec ws at) (put (put none (leaf_rec ws at (node_code int_node)) none) (leaf_rec ws (at + 1 + 1) k) none) (joined (span_at ws at) (span_at ws (at + 1 + 1)))) (int_kind src ws (at + 1 + 1) e)) refl
         (laid_word (leaf_rec ws (at + 1 + 1) (node_code int_node)) (laid_word (leaf_rec ws at (node_code int_node)) laid_none refl refl) refl refl) y refl (past_as (code Int) (λ u. u) c of_past e))
 
-un_true : (b : Bool) → not b ≡ true → T b → ⊥
-un_true true e t = subst T (sym e) tt
-un_true false e t = t
+told_false : (b : Bool) → b ≡ false → T b → ⊥
+told_false b e = subst T e
 
-un_false : (b : Bool) → not b ≡ false → T b
-un_false true e = tt
-un_false false e = subst T e tt
+told_true : (b : Bool) → b ≡ true → T b
+told_true b e = subst T (sym e) tt
 
 -- .. with the positions, the numbers and the span that the code computed
 module _ (src : Text) (ws : List ℕ) {at n : ℕ} (g : Ready ws at n) (w : kind_at ws at ≡ code Int) {m : Node}
@@ -346,12 +344,12 @@ module _ (src : Text) (ws : List ℕ) {at n : ℕ} (g : Ready ws at n) (w : kind
   pub arg_past : m.at.0 < size ws
   arg_past = rw at_of (int_past src ws at 0 g.inside g.closed w)
 
-  pub arg_alone : {t t' : List ℕ} (a : ℕ) {b : Bool} → b ≡ is_of src ws m.at.0 → not b ≡ true → t' ≡ put_rec t n (leaf_rec ws at (node_code int_node)) → Took (reads type_arg a (from src ws at) fresh) src ws t n m t'
-  arg_alone a {b} e f y = int_alone src ws at a g.inside g.closed w (λ u. un_true b f (subst T (ap (λ (i : ℕ). is_of src ws i) (sym at_of) ∙ sym e) u)) x y
+  pub arg_alone : {t t' : List ℕ} (a : ℕ) {b : Bool} → b ≡ is_of src ws m.at.0 → b ≡ false → t' ≡ put_rec t n (leaf_rec ws at (node_code int_node)) → Took (reads type_arg a (from src ws at) fresh) src ws t n m t'
+  arg_alone a {b} e f y = int_alone src ws at a g.inside g.closed w (λ u. told_false b f (subst T (ap (λ (i : ℕ). is_of src ws i) (sym at_of) ∙ sym e) u)) x y
 
-  module _ {b : Bool} (e : b ≡ is_of src ws m.at.0) (f : not b ≡ false) where
+  module _ {b : Bool} (e : b ≡ is_of src ws m.at.0) (f : b ≡ true) where
     spelt : T (is_of src ws (at + 1))
-    spelt = subst T (e ∙ ap (λ (i : ℕ). is_of src ws i) at_of) (un_false b f)
+    spelt = subst T (e ∙ ap (λ (i : ℕ). is_of src ws i) at_of) (told_true b f)
 
     pub arg_ready : {i : ℕ} → i ≡ m.at.0 + 1 → Ready ws i m.no.0
     arg_ready {i} q =

@@ -21,7 +21,7 @@ use quanta_cursor::{node, refusal};
 use quanta_token::edition::Edition;
 use quanta_token::token;
 
-#[cycle(generic_arg_generic_args_ty)]
+#[cycle(types)]
 pub fn ty(
     edition: Edition,
     src: &[u8],
@@ -50,7 +50,7 @@ pub fn ty(
     }
 }
 
-#[cycle(generic_arg_generic_args_ty)]
+#[cycle(types)]
 fn generic_args(
     edition: Edition,
     src: &[u8],
@@ -96,7 +96,7 @@ fn generic_args(
     }
 }
 
-#[cycle(generic_arg_generic_args_ty)]
+#[cycle(types)]
 fn generic_arg(
     edition: Edition,
     src: &[u8],

@@ -1,0 +1,28 @@
+-- `quanta_type::ty::int_arg` meets its contract: an integer alone, or m of n.
+-- Assumes nothing.
+use native.Mathlib.Omega.{arith}
+use Rattle.quanta_token.specs.declared.edition.Edition.TheVariants.{One}
+use Rattle.quanta_grammar.specs.Refine.{text}
+use Rattle.quanta_type.proofs.Types.{type_took, type_failed, arg_past, arg_alone, arg_ready, arg_bad, arg_few, arg_took}
+use Rattle.quanta_type.proofs.ty.int_arg.Goals as goal
+
+pub is_of-requires : goal.is_of-requires
+is_of-requires c = (c.requires.0.closed, arg_past (text One c.args.src.now) c.args.tokens.now c.requires.0 c.requires.1 c.leaf-m.ensures.0)
+
+pub returns-then-not-is_of : goal.returns-then-not-is_of
+returns-then-not-is_of c = λ e a. type_took (arg_alone (text e c.args.src.now) c.args.tokens.now c.requires.0 c.requires.1 c.leaf-m.ensures.0 a (c.is_of.ensures e) c.if-not-is_of.true c.leaf-m.ensures.1)
+
+pub bump-requires : goal.bump-requires
+bump-requires c = omega (arith, arg_past (text One c.args.src.now) c.args.tokens.now c.requires.0 c.requires.1 c.leaf-m.ensures.0, c.requires.0.closed.few)
+
+pub expect_int-requires : goal.expect_int-requires
+expect_int-requires c = arg_ready (text One c.args.src.now) c.args.tokens.now c.requires.0 c.requires.1 c.leaf-m.ensures.0 (c.is_of.ensures One) c.if-not-is_of.false c.bump.ensures
+
+pub put-requires : goal.put-requires
+put-requires c = (arg_few (text One c.args.src.now) c.args.tokens.now c.requires.0 c.requires.1 c.leaf-m.ensures.0 (c.is_of.ensures One) c.if-not-is_of.false c.bump.ensures c.expect_int.ensures c.in-Node.is, omega (arith, arg_past (text One c.args.src.now) c.args.tokens.now c.requires.0 c.requires.1 c.leaf-m.ensures.0, c.requires.0.closed.few))
+
+pub returns-in-Refused : goal.returns-in-Refused
+returns-in-Refused c = λ e a. type_failed (arg_bad (text e c.args.src.now) c.args.tokens.now c.requires.0 c.requires.1 c.leaf-m.ensures.0 (c.is_of.ensures e) c.if-not-is_of.false c.bump.ensures c.expect_int.ensures a c.in-Refused.is)
+
+pub returns-in-Node : goal.returns-in-Node
+returns-in-Node c = λ e a. type_took (arg_took (text e c.args.src.now) c.args.tokens.now c.requires.0 c.requires.1 c.leaf-m.ensures.0 (c.is_of.ensures e) c.if-not-is_of.false c.bump.ensures c.expect_int.ensures c.in-Node.is a c.leaf-m.ensures.1 c.join-span.ensures c.put.ensures.0 c.put.ensures.1)
