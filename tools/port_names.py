@@ -83,8 +83,11 @@ def table():
 
 
 def turn(text, rows, own=frozenset(), dots=True):
+    aliases = tuple(a + "." for a in re.findall(r"^use Rattle\.[^\s{]+ as ([\w-]+)$", text, re.M))
+
     def one(m):
-        if not dots and m.start() > 0 and text[m.start() - 1] == ".":
+        before = text[max(0, m.start() - 40) : m.start()]
+        if not dots and before.endswith(".") and not re.search(r"(?<![\w.'-])(%s)$" % "|".join(map(re.escape, aliases or (" ",))), before):
             return m.group(0)
         if m.group(0) in own:
             return m.group(0)
@@ -109,7 +112,8 @@ def from_library(text):
 def turn_proof(path, rows):
     text = read(path)
     walk = is_walk(path)
-    own = (declared(path) if walk else set()) | from_library(text)
+    own = set(re.findall(r"^(?:abbrev |pub )*([^\s:(){}.,]+) :", text, re.M)) if walk else set()
+    own |= from_library(text)
     out, at = [], 0
     for m in COMMENT.finditer(text):
         out += [turn(text[at : m.start()], rows, own, not walk), turn_comment(m.group(0), rows)]
@@ -126,8 +130,10 @@ def turn_source(path, rows):
     lines = []
     for line in read(path).split("\n"):
         code, mark, comment = line.partition("//")
-        if re.match(r"\s*(ghost|requires|ensures|pub ghost)\b", code) or re.match(r"\s*(ghost )?use Rattle", code):
+        if re.match(r"\s*ghost use ", code):
             code = turn(code, rows)
+        else:
+            code = turn(code, {a: b for a, b in rows.items() if is_old(a)})
         lines.append(code + (mark + turn_comment(comment, rows) if mark else ""))
     return "\n".join(lines)
 

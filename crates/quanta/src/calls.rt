@@ -22,7 +22,7 @@ pub fn parse(
     tree: &mut [u32],
 ) -> Answer
     ensures { Conforms edition program_call source.now words.now (length tokens.old) (length tree.old) result tokens.new tree.new
-        × Faithful edition programCall source.now words.now (length tokens.old) (length tree.old) result tree.new }
+        × Faithful edition program_call source.now words.now (length tokens.old) (length tree.old) result tree.new }
 {
     match tokenize(edition, source, words, tokens) {
         Lexed::Refused { number, start, end } => refuse(tree, number, start, end),
@@ -44,7 +44,7 @@ pub fn parse_item(
     tree: &mut [u32],
 ) -> Answer
     ensures { Conforms edition item_call source.now words.now (length tokens.old) (length tree.old) result tokens.new tree.new
-        × Faithful edition itemCall source.now words.now (length tokens.old) (length tree.old) result tree.new }
+        × Faithful edition item_call source.now words.now (length tokens.old) (length tree.old) result tree.new }
 {
     match tokenize(edition, source, words, tokens) {
         Lexed::Refused { number, start, end } => refuse(tree, number, start, end),
@@ -66,7 +66,7 @@ pub fn parse_stmt(
     tree: &mut [u32],
 ) -> Answer
     ensures { Conforms edition stmt_call source.now words.now (length tokens.old) (length tree.old) result tokens.new tree.new
-        × Faithful edition stmtCall source.now words.now (length tokens.old) (length tree.old) result tree.new }
+        × Faithful edition stmt_call source.now words.now (length tokens.old) (length tree.old) result tree.new }
 {
     match tokenize(edition, source, words, tokens) {
         Lexed::Refused { number, start, end } => refuse(tree, number, start, end),
@@ -88,7 +88,7 @@ pub fn parse_expr(
     tree: &mut [u32],
 ) -> Answer
     ensures { Conforms edition expr_call source.now words.now (length tokens.old) (length tree.old) result tokens.new tree.new
-        × Faithful edition exprCall source.now words.now (length tokens.old) (length tree.old) result tree.new }
+        × Faithful edition expr_call source.now words.now (length tokens.old) (length tree.old) result tree.new }
 {
     match tokenize(edition, source, words, tokens) {
         Lexed::Refused { number, start, end } => refuse(tree, number, start, end),
@@ -110,7 +110,7 @@ pub fn parse_type(
     tree: &mut [u32],
 ) -> Answer
     ensures { Conforms edition type_call source.now words.now (length tokens.old) (length tree.old) result tokens.new tree.new
-        × Faithful edition typeCall source.now words.now (length tokens.old) (length tree.old) result tree.new }
+        × Faithful edition type_call source.now words.now (length tokens.old) (length tree.old) result tree.new }
 {
     match tokenize(edition, source, words, tokens) {
         Lexed::Refused { number, start, end } => refuse(tree, number, start, end),

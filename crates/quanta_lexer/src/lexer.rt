@@ -165,7 +165,7 @@ fn run_by_size(edition: Edition, src: &[u8], words: &[u8], tokens: &mut [u32]) -
 // The refusals 1 to 10 and 28 in order of test, or the tokens.
 fn read_source(edition: Edition, src: &[u8], words: &[u8], tokens: &mut [u32]) -> Read
     ensures { (result ≡ reading edition src.now words.now)
-        × Written (lexAll edition src.now words.now).toks
+        × Written (lex_all edition src.now words.now).toks
         tokens.old tokens.new result }
 {
     if TABLE_LIMIT < words.len() {
@@ -203,7 +203,7 @@ fn clear(tokens: &mut [u32])
 pub fn tokenize(edition: Edition, src: &[u8], words: &[u8], tokens: &mut [u32]) -> Answer
     ensures { (result ≡ tokenizing edition src.now words.now (length tokens.old))
         × (tokens.new ≡
-        tokenWords edition src.now words.now (length tokens.old)) }
+        token_words edition src.now words.now (length tokens.old)) }
 {
     match read_source(edition, src, words, tokens) {
         Read::Stopped { number, start, end } => {

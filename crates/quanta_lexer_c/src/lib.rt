@@ -25,7 +25,7 @@ pub struct Outcome {
 pub extern "C" fn quanta_tokenize(source: &[u8], words: &[u8], tokens: &mut [u32]) -> Outcome
     ensures { (result ≡ outcome_of (tokenizing One source.now words.now (length tokens.old)))
         × (tokens.new ≡
-        tokenWords One source.now words.now (length tokens.old)) }
+        token_words One source.now words.now (length tokens.old)) }
 {
     match tokenize(Edition::One, source, words, tokens) {
         Answer::Accepted(n) => Outcome {

@@ -9,7 +9,7 @@ use Rattle.quanta_grammar.specs.Productions.{expr, more_args}
 use Rattle.quanta_grammar.specs.Refine.{blank}
 use Rattle.quanta_cursor.specs.Tokens.{size, kind_at, Ready}
 use Rattle.quanta_cursor.proofs.Places.{past_as, ready_past, ready_small, took_onward, took_ready}
-use Rattle.quanta_cursor.proofs.Meeting.{took-all, failed_all, took_of, failed_of}
+use Rattle.quanta_cursor.proofs.Meeting.{took_all, failed_all, took_of, failed_of}
 use Rattle.quanta_cursor.proofs.Lists.{Rolling, rolling_in, rolling_on, rolled, arguments}
 use Rattle.quanta_cursor.proofs.Lists.{comma_on, comma_bad, comma_stop, took_more}
 use borrow.Author.Rules.{rules}
@@ -70,7 +70,7 @@ returns c = λ src o t n w.
     let i = p.before.loop.invariant in
     let g = i.carries src o t n _ w in
     let stop = comma_stop g arguments i.ready.inside (λ z. c.if1.true (p.peek.ensures ∙ z)) in
-    took-all (rolled g stop i.ready.inside)
+    took_all (rolled g stop i.ready.inside)
 
 returns-2 : tie.Need-returns-2 Inv μ
 returns-2 c = λ src o t n w.

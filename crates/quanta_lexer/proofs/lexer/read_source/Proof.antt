@@ -6,7 +6,7 @@ use borrow.Author.Tests.{lt-ltb, le-ltb}
 use Rattle.utf8.specs.Utf8.{first_bad}
 use Rattle.quanta_source.specs.Source.{checked}
 use Rattle.quanta_lexer.specs.Tokens.{read_of, lex_all}
-use Rattle.quanta_lexer.specs.Tokenizing.{reading, or_else, wellOr, clean_or}
+use Rattle.quanta_lexer.specs.Tokenizing.{reading, or_else, well_or, clean_or}
 use Rattle.quanta_lexer.proofs.TokenizingLaws.{bad_place, return_place, barred_place, unwritten, written}
 use borrow.Author.Rules.{rules}
 use Rattle.quanta_lexer.proofs.lexer.read_source.Statement.{statement}
@@ -46,7 +46,7 @@ returns-3 c =
 -- the table is well formed, and neither is too long
 past-limits : (c : tie.Else3) → let a = c.before.before.before.before.before.before.before.args in
     reading a.edition a.src.now a.words.now ≡
-    wellOr (first_bad a.src.now)
+    well_or (first_bad a.src.now)
     (clean_or (checked a.src.now) (read_of (lex_all a.edition a.src.now a.words.now)))
 unfolding reading or_else
 past-limits c =
@@ -68,7 +68,7 @@ add-stopped c =
     omega (arith, bad_place s.args.src.now _ (sym f.first-bad.ensures ∙ i.i.given.1))
 
 returns-4 : tie.Need-returns-4
-unfolding wellOr
+unfolding well_or
 returns-4 c =
     let i : tie.After-i = search in
     let f : tie.After-first-bad = search in
@@ -92,7 +92,7 @@ add-stopped-3 c =
     omega (arith, barred_place s.args.src.now _ (sym k.check-source.ensures ∙ i.i3.given.1))
 
 returns-5 : tie.Need-returns-5
-unfolding wellOr clean_or
+unfolding well_or clean_or
 returns-5 c =
     let i : tie.After-i2 = search in
     let k : tie.After-check-source = search in
@@ -105,7 +105,7 @@ returns-5 c =
     )
 
 returns-6 : tie.Need-returns-6
-unfolding wellOr clean_or
+unfolding well_or clean_or
 returns-6 c =
     let i : tie.After-i3 = search in
     let k : tie.After-check-source = search in
@@ -118,7 +118,7 @@ returns-6 c =
     )
 
 returns-7 : tie.Need-returns-7
-unfolding wellOr clean_or
+unfolding well_or clean_or
 returns-7 c =
     let r : tie.After-run-by-size = search in
     let i : tie.After-enum-told2 = search in
