@@ -51,7 +51,17 @@ class Walk:
         return [new] + rest
 
     def turned(self, place, fields):
+        got = self.found(place, fields)
+        if got[0].startswith("if-") and len(got) > 1:
+            got[1] = {"taken": "true", "left": "false"}.get(got[1], got[1])
+        if "loop" in got[0] and len(got) > 1 and got[1] == "inv":
+            got[1] = "invariant"
+        return got
+
+    def found(self, place, fields):
         name, rest = fields[0], fields[1:]
+        if name == "pre":
+            return ["requires"] + rest
         i = place
         while i is not None:
             got = self.step_at(i, name, rest)
@@ -101,15 +111,54 @@ def blocks(text):
     return head, out
 
 
-def let_places(walk, text, place):
-    """A `let s : tie.P = search in` names a place further out: what is cited of it is cited of c."""
+def let_places(walk, text, place, var, short):
+    """A `let s : tie.P = search in`, or `let s = c.before.before in`, names a place further out: what is cited of it is cited of c."""
+    env = {var: place}
     while True:
-        m = re.search(r"\blet ([\w₀-₉'-]+) : tie\.([\w-]+)(?: [\w₀-₉'-]+)* = search in\s*", text)
+        m = re.search(r"\blet ([\w₀-₉'-]+) : (?:tie\.)?([\w-]+)(?: [\w₀-₉'-]+)* = search in\s*", text)
+        if m and ("tie." in m.group(0) or m.group(2) in short):
+            name = short.get(m.group(2), m.group(2))
+            if dashed(name) not in walk.places:
+                walk.lost.append("%s: no place %s" % (walk.where, name))
+            env[m.group(1)] = walk.places.get(dashed(name), place)
+        else:
+            known = "|".join(map(re.escape, env))
+            m = re.search(r"\blet ([\w₀-₉'-]+) = (%s)((?:\.before)+) in\s*" % known, text)
+            if not m:
+                break
+            at = env[m.group(2)]
+            for _ in range(m.group(3).count("before")):
+                at = walk.parent(at) if walk.parent(at) is not None else at
+            env[m.group(1)] = at
+        text = text[: m.start()] + text[m.end() :]
+    for name, at in env.items():
+        text = walk.body(text, at, name, var)
+    return text
+
+
+def short_places(decls):
+    """`abbrev Head : Type 0` with `Head = tie.At-loop ..` is a short name of a place."""
+    out = {}
+    for block in decls:
+        m = re.search(r"^([\w-]+)(?: t)? = (?:tie|[\w-]+-lts)\.([A-Z][\w-]*)", "\n".join(block), re.M)
+        if m and "Need-" not in m.group(2):
+            out[m.group(1)] = m.group(2)
+    return out
+
+
+def turn_helper(walk, text, short):
+    """A helper that speaks of a place by `(c : tie.P ..)`."""
+    while True:
+        m = re.search(r"\(([\w₀-₉'-]+) : tie\.([\w-]+)[^()]*\)", text)
         if not m:
-            return text
-        at = walk.places.get(dashed(m.group(2)), place)
-        rest = walk.body(text[m.end() :], at, m.group(1))
-        text = text[: m.start()] + rest
+            break
+        at = walk.places.get(dashed(m.group(2)))
+        if at is None:
+            walk.lost.append("%s: no place %s" % (walk.where, m.group(2)))
+            break
+        text = text[: m.start()] + "(%s : goal.%s)" % (m.group(1), walk.told["places_by_name"][at]) + text[m.end() :]
+        text = let_places(walk, text, at, m.group(1), short)
+    return text
 
 
 def live(walk, loop, name):
@@ -164,13 +213,15 @@ def turn(crate, path, function, told, lost):
     walk = Walk(told, crate + "::" + function)
     head, decls = blocks(text)
     needs, invariants, helpers = [], [], []
+    short = short_places(decls)
     for block in decls:
         name, kind = kind_of(block)
         m = re.match(r"tie\.Need-([\w-]+)", kind)
         if m:
             needs.append((name, m.group(1), block))
         elif re.match(r"tie\.(invariant|decreases)-", kind):
-            invariants.append(block)
+            to = kind[4:].split(" ")[0]
+            invariants.append([re.sub(r"^((?:abbrev |pub )*)%s\b" % re.escape(name), lambda m: m.group(1) + to, l) for l in block])
         elif "statement M" in kind or any("tie.close" in l for l in block):
             continue
         else:
@@ -182,21 +233,22 @@ def turn(crate, path, function, told, lost):
         text = "\n".join(block).rstrip("\n")
         m = re.search(r"^%s ([\w₀-₉']+)((?: [^\s=]+)*) =" % re.escape(name), text, re.M)
         if i not in at:
-            if not text.endswith("= search rules") and not old.startswith("same-length"):
+            if not text.endswith("= search rules") and not old.startswith(("same-length", "shape-of")):
                 walk.lost.append("%s: no goal for %s" % (walk.where, old))
                 answers.append("-- no goal: " + text.replace("\n", "\n-- "))
             continue
         if text.endswith("= search rules"):
             continue
         new = told["needs"][at[i]][1]
+        if new.startswith("shape_of-"):
+            continue
         place = walk.places[dashed(told["asked_at"][at[i]][0])]
         between = re.search(r"^unfolding .*$", text, re.M)
         comments = "".join(l + "\n" for l in block if l.startswith("--"))
         if not m:
             walk.lost.append("%s: no clause of %s" % (walk.where, name))
             continue
-        body = let_places(walk, text[m.end() :], place)
-        body = walk.body(body, place, m.group(1))
+        body = let_places(walk, text[m.end() :], place, m.group(1), short)
         body = re.sub(r"\.auto(?:\.[01])+\b", ".auto.tree", body)
         # What an `if` on `!x` tells is a fact about x today.
         body = re.sub(r"not[-_](?:true|false) _ (c\.if-[\w.₀-₉-]+)", r"\1", body)
@@ -218,7 +270,7 @@ def turn(crate, path, function, told, lost):
     comments = [l for l in uses if l.startswith("--")]
     uses = [l for l in uses if l.startswith("use ")]
     folder = os.path.dirname(path)
-    mine = "\n\n".join("\n".join(b).rstrip("\n") for b in helpers)
+    mine = "\n\n".join(turn_helper(walk, "\n".join(b).rstrip("\n"), short) for b in helpers if not any(re.match(r"(abbrev )?%s " % re.escape(s), b[0]) for s in short))
     if re.search(r"\btie\.", mine):
         walk.lost.append("%s: a helper speaks of the walk" % walk.where)
     if invariants:
@@ -274,6 +326,7 @@ def turn_cycle(crate, path, cycle, told, lost):
     dashes = {dashed(m): m for m in members}
     needs = {m: [] for m in members}
     invariants, measures, helpers = [], [], []
+    short = short_places(decls)
     for block in decls:
         name, kind = kind_of(block)
         joined = " ".join(block)
@@ -326,8 +379,7 @@ def turn_cycle(crate, path, cycle, told, lost):
             if not m:
                 walk.lost.append("%s: no clause of %s" % (walk.where, name))
                 continue
-            body = let_places(walk, text[m.end() :], place)
-            body = walk.body(body, place, m.group(1))
+            body = let_places(walk, text[m.end() :], place, m.group(1), short)
             body = re.sub(r"not[-_](?:true|false) _ (c\.if-[\w.₀-₉-]+)", r"\1", body)
             body = re.sub(r"\.auto(?:\.[01])+\b", ".auto.tree", body)
             body = body.replace("c.requires.0", "c.decreases").replace("c.requires.1", "c.requires")

@@ -1,0 +1,69 @@
+use mathlib.Core.Path.{◌≡◌, refl, sym, ◌∙◌}
+use Prim.Native.Nat.{◌-◌}
+use native.Mathlib.Omega.{arith}
+use Rattle.quanta_token.specs.TokenKind.{code, Comma}
+use Rattle.quanta_grammar.specs.Productions.{expr, more_args}
+use Rattle.quanta_grammar.specs.Refine.{blank}
+use Rattle.quanta_cursor.specs.Tokens.{size, kind_at, Ready}
+use Rattle.quanta_cursor.proofs.Places.{past_as, ready_past, ready_small, took_onward, took_ready}
+use Rattle.quanta_cursor.proofs.Meeting.{took_all, failed_all, took_of, failed_of}
+use Rattle.quanta_cursor.proofs.Lists.{Rolling, rolling_in, rolling_on, rolled, arguments}
+use Rattle.quanta_cursor.proofs.Lists.{comma_on, comma_bad, comma_stop, took_more}
+use borrow.Author.Rules.{rules}
+use Rattle.quanta_engine.proofs.expr.more_args.Goals as goal
+
+-- WHAT THE CALLS ASK
+pub loop-at-init : goal.loop-at-init
+loop-at-init c = rolling_in c.requires.0 c.requires.2
+
+pub bump-requires : goal.bump-requires
+bump-requires c = ready_small c.loop-at.invariant.ready
+
+pub expr-requires : goal.expr-requires
+expr-requires c =
+    let comma = sym c.peek.ensures ∙ c.if-peek-ne-COMMA.false in
+    let r = c.loop-at.invariant.ready in
+    let further = ready_past r (past_as (code Comma) (λ u. u) r.closed r.inside comma) c.bump.ensures in
+    (further, c.requires.1)
+
+pub overflow_add-count : goal.overflow_add-count
+overflow_add-count c =
+    let i = c.loop-at.invariant in
+    omega (arith, i.few, i.ready.inside, i.ready.fits, i.ready.closed.few)
+
+-- THE ANSWERS: no `,`; an argument that is refused
+pub returns-then-peek-ne-COMMA : goal.returns-then-peek-ne-COMMA
+returns-then-peek-ne-COMMA c = λ src o t n w.
+    let i = c.loop-at.invariant in
+    let g = i.carries src o t n _ w in
+    let stop = comma_stop g arguments i.ready.inside (λ z. c.if-peek-ne-COMMA.true (c.peek.ensures ∙ z)) in
+    took_all (rolled g stop i.ready.inside)
+
+pub returns-in-Refused : goal.returns-in-Refused
+returns-in-Refused c = λ src o t n w.
+    let comma = sym c.peek.ensures ∙ c.if-peek-ne-COMMA.false in
+    let i = c.loop-at.invariant in
+    failed_all (comma_bad (i.carries src o t n _ w) arguments i.ready.inside comma c.bump.ensures
+    (failed_of c.in-Refused.is (c.expr.ensures src)))
+
+-- ONE ARGUMENT MORE
+pub loop-at-smaller : goal.loop-at-smaller
+loop-at-smaller c =
+    let comma = sym c.peek.ensures ∙ c.if-peek-ne-COMMA.false in
+    let r = c.loop-at.invariant.ready in
+    let further = ready_past r (past_as (code Comma) (λ u. u) r.closed r.inside comma) c.bump.ensures in
+    let z = took_of c.in-Node.is (c.expr.ensures blank) in
+    let y = took_onward blank expr c.args.allowance further.inside z in
+    omega (arith, y.0, c.bump.ensures, c.loop-at.invariant.ready.inside)
+
+pub loop-at-preserved : goal.loop-at-preserved
+loop-at-preserved c =
+    let comma = sym c.peek.ensures ∙ c.if-peek-ne-COMMA.false in
+    let r = c.loop-at.invariant.ready in
+    let further = ready_past r (past_as (code Comma) (λ u. u) r.closed r.inside comma) c.bump.ensures in
+    let i = c.loop-at.invariant in
+    let y = took_of c.in-Node.is (c.expr.ensures blank) in
+    rolling_on i
+    (λ src o t n z g. comma_on g arguments i.ready.inside comma c.bump.ensures
+    (took_of c.in-Node.is (c.expr.ensures src)) refl)
+    (took_ready blank expr c.args.allowance further y) refl (took_more y) c.expr.auto.tree

@@ -1,0 +1,35 @@
+-- `quanta_engine::expr::wrap` meets its contract: a keyword, and its `(` or another token.
+-- Assumes nothing.
+-- another token stands behind the keyword
+use Prim.Native.Nat.{◌+◌, ◌<◌}
+use native.Mathlib.Omega.{arith}
+use Rattle.quanta_token.specs.TokenKind.{code, LParen}
+use Rattle.quanta_cursor.specs.Tokens.{size}
+use Rattle.quanta_cursor.proofs.Places.{past_as}
+use Rattle.quanta_cursor.proofs.Meeting.{next_of, lacks_of}
+use Rattle.quanta_engine.specs.Frames.{here}
+use Rattle.quanta_engine.proofs.Begun.{keyword_past, unwrapped_turn, wrap_turn}
+use borrow.Author.Rules.{rules}
+use Rattle.quanta_engine.proofs.expr.wrap.Goals as goal
+
+pub expect-requires : goal.expect-requires
+expect-requires c =
+    let l = keyword_past c.requires.2.word c.requires.0.closed c.requires.0.inside c.requires.2.is in
+    (omega (arith, c.bump.ensures), c.requires.0.closed.few)
+
+pub enclose-requires : goal.enclose-requires
+enclose-requires c =
+    let l = keyword_past c.requires.2.word c.requires.0.closed c.requires.0.inside c.requires.2.is in
+    let n = next_of c.in-Next.is c.expect.ensures in
+    let h : c.bump.result.0 < size c.args.tokens.now = omega (arith, c.bump.ensures) in
+    let z = past_as (code LParen) (λ u. u) c.requires.0.closed h n.0 in
+    (c.requires.0.inside, omega (arith, n.1))
+
+pub returns-in-Refused : goal.returns-in-Refused
+returns-in-Refused c = λ words.
+    unwrapped_turn c.requires.1 c.requires.2 c.bump.ensures (lacks_of c.in-Refused.is c.expect.ensures)
+
+pub returns-in-Next : goal.returns-in-Next
+returns-in-Next c = λ words.
+    wrap_turn c.requires.1 c.requires.2 c.bump.ensures (next_of c.in-Next.is c.expect.ensures)
+    c.enclose.ensures
