@@ -1,0 +1,10 @@
+-- `quanta_clause::decl::end_clause` meets its contract.
+-- Assumes nothing.
+use mathlib.Core.Path.{ap, ◌∙◌}
+use Rattle.quanta_clause.specs.Clauses.{clause_kind}
+use Rattle.quanta_clause.proofs.Clauses.{ends_made}
+use borrow.Author.Rules.{rules}
+use Rattle.quanta_clause.proofs.decl.end_clause.Goals as goal
+
+pub returns : goal.returns
+returns c = ends_made _ c.put.ensures.0 (c.clause_kind-kind.ensures ∙ ap clause_kind c.peek.ensures) c.peek_span.ensures c.join-span.ensures c.put.ensures.1

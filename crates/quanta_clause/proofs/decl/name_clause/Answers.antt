@@ -1,0 +1,19 @@
+-- `quanta_clause::decl::name_clause` meets its contract.
+-- Assumes nothing.
+use Rattle.quanta_grammar.specs.Refine.{blank}
+use Rattle.quanta_cursor.proofs.Meeting.{took, failed}
+use Rattle.quanta_clause.proofs.Clauses.{name_past, name_bad, name_ready, name_took}
+use borrow.Author.Rules.{rules}
+use Rattle.quanta_clause.proofs.decl.name_clause.Goals as goal
+
+pub expect_ident-requires : goal.expect_ident-requires
+expect_ident-requires c = name_past blank c.args.tokens.now 0 c.requires.0 c.requires.1 c.bump.ensures
+
+pub end_clause-requires : goal.end_clause-requires
+end_clause-requires c = (c.requires.0.inside, name_ready blank c.args.tokens.now 0 c.requires.0 c.requires.1 c.bump.ensures c.expect_ident.ensures c.in-Node.is)
+
+pub returns-in-Refused : goal.returns-in-Refused
+returns-in-Refused c = λ src a. failed (name_bad src c.args.tokens.now a c.requires.0 c.requires.1 c.bump.ensures c.expect_ident.ensures c.in-Refused.is)
+
+pub returns-in-Node : goal.returns-in-Node
+returns-in-Node c = λ src a. took (name_took src c.args.tokens.now a c.requires.0 c.requires.1 c.bump.ensures c.expect_ident.ensures c.in-Node.is c.end_clause.ensures)

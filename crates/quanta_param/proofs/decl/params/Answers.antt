@@ -1,0 +1,84 @@
+use mathlib.Core.Path.{◌≡◌, refl, sym, ◌∙◌}
+use Prim.Native.Nat.{◌-◌}
+use Rattle.quanta_token.specs.TokenKind.{code, RParen}
+use native.Mathlib.Omega.{arith}
+use borrow.Author.Rules.{rules}
+use Rattle.grammar.specs.Records.{fresh}
+use Rattle.quanta_grammar.specs.Productions.{param, more_params}
+use Rattle.quanta_grammar.specs.Refine.{text}
+use Rattle.quanta_cursor.specs.Tokens.{size, kind_at}
+use Rattle.quanta_cursor.proofs.Places.{ready_small}
+use Rattle.quanta_cursor.proofs.Lists.{parameters}
+use Rattle.quanta_type.proofs.Arguments.{Awaits, begun, no_element, half_element, half_few, Element, element}
+use Rattle.quanta_type.proofs.Arguments.{behind, same_long, one_more, list_over, next_awaits, next_further}
+use Rattle.quanta_param.proofs.Params.{params_none, params_some}
+use Rattle.quanta_param.proofs.decl.params.Goals as goal
+
+-- THE PLACES: the start, behind the test of `)`, the head of the loop, the call's answer, a parameter that is read
+abbrev Start : Type 0
+Start = tie.Start invariant-loop decreases-loop
+
+abbrev parameter : Parameter → Element param more_params
+parameter c =
+    let g = c.before.before.before.before in
+    element g.before.before.loop.invariant g.param.ensures c.param3.given.1 g.param.auto.1.1.1.0
+
+pub peek-requires : goal.peek-requires
+peek-requires c = c.requires.inside
+
+pub returns-then-peek-eq-RPAREN : goal.returns-then-peek-eq-RPAREN
+returns-then-peek-eq-RPAREN c =
+    params_none (text c.args.edition c.args.src.now) c.args.tokens.now c.args.allowance c.requires
+    (sym c.peek.ensures ∙ c.if-peek-eq-RPAREN.true) refl refl refl
+
+pub loop-e-init : goal.loop-e-init
+loop-e-init c =
+    begun parameters c.args.allowance c.args.tree.now c.requires
+
+pub param-requires : goal.param-requires
+param-requires c = c.loop-e.invariant.ready
+
+pub returns-in-Refused : goal.returns-in-Refused
+returns-in-Refused c =
+    params_some (text c.args.edition c.args.src.now) c.args.tokens.now c.args.allowance c.requires
+    (λ z. c.if-peek-eq-RPAREN.false (c.peek.ensures ∙ z))
+    (no_element c.loop-e.invariant c.param.ensures c.in-Refused.is fresh)
+
+-- the first closer of a `>>` closed its type
+pub overflow_add-count : goal.overflow_add-count
+overflow_add-count c =
+    omega (arith, half_few c.loop-e.invariant c.param.ensures c.in-Half.is)
+
+pub returns-in-Half : goal.returns-in-Half
+returns-in-Half c =
+    params_some (text c.args.edition c.args.src.now) c.args.tokens.now c.args.allowance c.requires
+    (λ z. c.if-peek-eq-RPAREN.false (c.peek.ensures ∙ z))
+    (half_element c.loop-e.invariant c.param.ensures c.in-Half.is fresh)
+
+-- a parameter is read
+pub overflow_add-count-in-Node : goal.overflow_add-count-in-Node
+overflow_add-count-in-Node c =
+    let e = parameter (search) in
+    omega (arith, one_more e, (behind e).fits, (behind e).inside, (behind e).closed.few)
+
+pub peek-requires-in-Node : goal.peek-requires-in-Node
+peek-requires-in-Node c = (behind (parameter (search))).inside
+
+pub returns-then-peek-ne-COMMA : goal.returns-then-peek-ne-COMMA
+returns-then-peek-ne-COMMA c =
+    params_some (text c.args.edition c.args.src.now) c.args.tokens.now c.args.allowance c.requires
+    (λ z. c.if-peek-eq-RPAREN.false (c.peek.ensures ∙ z))
+    (list_over (parameter (search)) parameters c.peek-in-Node.ensures c.if-peek-ne-COMMA.true fresh)
+
+pub bump-at-requires : goal.bump-at-requires
+bump-at-requires c = ready_small (behind (parameter (search)))
+
+pub loop-e-smaller : goal.loop-e-smaller
+loop-e-smaller c =
+    let e = parameter (search) in
+    let z = next_further e parameters c.peek-in-Node.ensures c.if-peek-ne-COMMA.false c.bump-at.ensures in
+    omega (arith, e.awaited.ready.inside)
+
+pub loop-e-preserved : goal.loop-e-preserved
+loop-e-preserved c =
+    next_awaits (parameter (search)) parameters c.peek-in-Node.ensures c.if-peek-ne-COMMA.false c.bump-at.ensures

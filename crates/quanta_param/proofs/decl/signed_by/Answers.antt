@@ -1,0 +1,28 @@
+-- `quanta_param::decl::signed_by` meets its contract.
+-- Assumes nothing.
+use mathlib.Core.Path.{refl, sym, ◌∙◌}
+use mathlib.Core.List.{[]}
+use Rattle.grammar.specs.Records.{fresh}
+use Rattle.quanta_param.proofs.Options.{missing, took_opt, failed_opt}
+use Rattle.quanta_param.proofs.Params.{signer_missing, signer_past, signer_byless, by_ready, signer_nameless, signer_took}
+use borrow.Author.Rules.{rules}
+use Rattle.quanta_grammar.specs.Refine.{blank}
+use Rattle.quanta_param.proofs.decl.signed_by.Goals as goal
+
+pub returns-then-peek-ne-SIGNED : goal.returns-then-peek-ne-SIGNED
+returns-then-peek-ne-SIGNED c = λ src a x. missing (signer_missing src c.args.tokens.now a c.requires x (λ z. c.if-peek-ne-SIGNED.true (c.peek.ensures ∙ z))) refl
+
+pub expect-requires : goal.expect-requires
+expect-requires c = let z = signer_past blank c.args.tokens.now 0 c.requires fresh (sym c.peek.ensures ∙ c.if-peek-ne-SIGNED.false) c.bump.ensures in (z.inside, z.closed.few)
+
+pub expect_ident-requires : goal.expect_ident-requires
+expect_ident-requires c = by_ready blank c.args.tokens.now 0 c.requires fresh (sym c.peek.ensures ∙ c.if-peek-ne-SIGNED.false) c.bump.ensures c.expect.ensures c.in-Next.is
+
+pub returns-in-Refused : goal.returns-in-Refused
+returns-in-Refused c = λ src a x. failed_opt (signer_byless src c.args.tokens.now a c.requires x (sym c.peek.ensures ∙ c.if-peek-ne-SIGNED.false) c.bump.ensures c.expect.ensures c.in-Refused.is)
+
+pub returns-in-Refused-expect_ident : goal.returns-in-Refused-expect_ident
+returns-in-Refused-expect_ident c = λ src a x. failed_opt (signer_nameless src c.args.tokens.now a c.requires x (sym c.peek.ensures ∙ c.if-peek-ne-SIGNED.false) c.bump.ensures c.expect.ensures c.in-Next.is c.expect_ident.ensures c.in-Refused-expect_ident.is)
+
+pub returns-in-Node : goal.returns-in-Node
+returns-in-Node c = λ src a x. took_opt (signer_took src c.args.tokens.now a c.requires x (sym c.peek.ensures ∙ c.if-peek-ne-SIGNED.false) c.bump.ensures c.expect.ensures c.in-Next.is c.expect_ident.ensures c.in-Node.is)
