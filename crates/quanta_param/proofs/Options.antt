@@ -76,7 +76,7 @@ module _ {s : Symbol} {k f : ℕ} (law : Keyword s k f) {ws : List ℕ} {i n : �
 
   pub eaten : (src : Text) (a : ℕ) (x : Acc) → reads s a (from src ws i) x ≡ left (flagged r.flag x) (from src ws r.at.0)
   eaten src a x =
-      ⊎_elim
+      ⊎_elim {C = reads s a (from src ws i) x ≡ left (flagged r.flag x) (from src ws r.at.0)}
       (λ w. law.there src ws i a x g.inside w.0 ∙ ap (λ (f : ℕ). left (flagged f x) (from src ws (i + 1))) (sym w.2) ∙ ap (λ (j : ℕ). left (flagged r.flag x) (from src ws j)) (sym w.1))
       (λ w. law.missing src ws i a x g.inside w.0 ∙ ap (λ (x : Acc). left x (from src ws i)) (unflagged x w.2) ∙ ap (λ (j : ℕ). left (flagged r.flag x) (from src ws j)) (sym w.1)) v
 

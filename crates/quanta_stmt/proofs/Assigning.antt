@@ -63,13 +63,11 @@ pub not_target : {k : ℕ} → Apart lvalues k → false ≡ has lvalues k
 not_target {k} a = is_false (has lvalues k) (apart_from lvalues k a)
 
 -- `!` of a test
-denied : (b : Bool) → not b ≡ true → T b → ⊥
-denied true e t = subst T (sym e) tt
-denied false e t = t
+denied : (b : Bool) → b ≡ false → T b → ⊥
+denied b e t = subst T e t
 
-granted : (b : Bool) → not b ≡ false → T b
-granted true e = tt
-granted false e = subst T e tt
+granted : (b : Bool) → b ≡ true → T b
+granted b e = subst T (sym e) tt
 
 module _ (src : Text) (ws : List ℕ) (at a : ℕ) (h : at < size ws) (w : Keyless (kind_at ws at)) where
   abbrev whole : Outcome
@@ -103,12 +101,12 @@ module _ (src : Text) (ws : List ℕ) (at a : ℕ) (h : at < size ws) (w : Keyle
 
     -- AN ASSIGNMENT
     module _ {flag : ℕ} (u : T (has assigns (kind_at ws m.at.0)) × (flag ≡ flag_of outs.flags (node_code assign_node) (kind_at ws m.at.0))) where
-      pub no_target : {b : Bool} {e : Refusal} → b ≡ has lvalues m.kind → not b ≡ true → e ≡ record { number = refusal_code bad_target; span = m.span; wanted = 0; found = 0 } → Failed whole e
+      pub no_target : {b : Bool} {e : Refusal} → b ≡ has lvalues m.kind → b ≡ false → e ≡ record { number = refusal_code bad_target; span = m.span; wanted = 0; found = 0 } → Failed whole e
       no_target {b} x z y =
           unsuits plain m.at.0 (over (bring subject_of tt k.gave)) k.inside
           (λ v. denied b z (subst T (ap (has lvalues) (sym k.kind) ∙ sym x) (fits_target (has assigns (fine_at src ws m.at.0)) (has lvalues k.top.kind) (fine_in assigns tt src ws m.at.0 u.0) v))) y
 
-      module _ {b : Bool} (x : b ≡ has lvalues m.kind) (z : not b ≡ false) {p : ℕ} (q : p ≡ m.at.0 + 1) where
+      module _ {b : Bool} (x : b ≡ has lvalues m.kind) (z : b ≡ true) {p : ℕ} (q : p ≡ m.at.0 + 1) where
         valued : whole ≡ reads tail a (from src ws m.at.0) behind
         valued = tail_of (target_fits (has assigns (fine_at src ws m.at.0)) (has lvalues k.top.kind) (subst T (x ∙ ap (has lvalues) k.kind) (granted b z)))
 

@@ -14,15 +14,6 @@ use Rattle.quanta_type.proofs.Arguments.{behind, same_long, one_more, list_over,
 use Rattle.quanta_param.proofs.Params.{params_none, params_some}
 use Rattle.quanta_param.proofs.decl.params.Goals as goal
 
--- THE PLACES: the start, behind the test of `)`, the head of the loop, the call's answer, a parameter that is read
-abbrev Start : Type 0
-Start = tie.Start invariant-loop decreases-loop
-
-abbrev parameter : Parameter → Element param more_params
-parameter c =
-    let g = c.before.before.before.before in
-    element g.before.before.loop.invariant g.param.ensures c.param3.given.1 g.param.auto.1.1.1.0
-
 pub peek-requires : goal.peek-requires
 peek-requires c = c.requires.inside
 
@@ -58,27 +49,27 @@ returns-in-Half c =
 -- a parameter is read
 pub overflow_add-count-in-Node : goal.overflow_add-count-in-Node
 overflow_add-count-in-Node c =
-    let e = parameter (search) in
+    let e = element c.loop-e.invariant c.param.ensures c.in-Node.is c.param.auto.tree in
     omega (arith, one_more e, (behind e).fits, (behind e).inside, (behind e).closed.few)
 
 pub peek-requires-in-Node : goal.peek-requires-in-Node
-peek-requires-in-Node c = (behind (parameter (search))).inside
+peek-requires-in-Node c = (behind (element c.loop-e.invariant c.param.ensures c.in-Node.is c.param.auto.tree)).inside
 
 pub returns-then-peek-ne-COMMA : goal.returns-then-peek-ne-COMMA
 returns-then-peek-ne-COMMA c =
     params_some (text c.args.edition c.args.src.now) c.args.tokens.now c.args.allowance c.requires
     (λ z. c.if-peek-eq-RPAREN.false (c.peek.ensures ∙ z))
-    (list_over (parameter (search)) parameters c.peek-in-Node.ensures c.if-peek-ne-COMMA.true fresh)
+    (list_over (element c.loop-e.invariant c.param.ensures c.in-Node.is c.param.auto.tree) parameters c.peek-in-Node.ensures c.if-peek-ne-COMMA.true fresh)
 
 pub bump-at-requires : goal.bump-at-requires
-bump-at-requires c = ready_small (behind (parameter (search)))
+bump-at-requires c = ready_small (behind (element c.loop-e.invariant c.param.ensures c.in-Node.is c.param.auto.tree))
 
 pub loop-e-smaller : goal.loop-e-smaller
 loop-e-smaller c =
-    let e = parameter (search) in
+    let e = element c.loop-e.invariant c.param.ensures c.in-Node.is c.param.auto.tree in
     let z = next_further e parameters c.peek-in-Node.ensures c.if-peek-ne-COMMA.false c.bump-at.ensures in
     omega (arith, e.awaited.ready.inside)
 
 pub loop-e-preserved : goal.loop-e-preserved
 loop-e-preserved c =
-    next_awaits (parameter (search)) parameters c.peek-in-Node.ensures c.if-peek-ne-COMMA.false c.bump-at.ensures
+    next_awaits (element c.loop-e.invariant c.param.ensures c.in-Node.is c.param.auto.tree) parameters c.peek-in-Node.ensures c.if-peek-ne-COMMA.false c.bump-at.ensures
