@@ -8,15 +8,14 @@ use native.Mathlib.Omega.{arith}
 use lib.Dec.{T, eqb}
 use lib.ListN.{drop}
 use Rattle.grammar.specs.Grammar.{Tok, Items, one, sub, has}
-use Rattle.grammar.specs.Records.{Acc, Row, none, put, Leaf, own, word, pass, fold, Reach, apart, Step, Mark, fresh, leave, finish, leaf_kind}
-use Rattle.grammar.specs.Fused.{Outcome, left, refused}
+use Rattle.grammar.specs.Records.{Acc, Leaf, own, word, pass, fold, Reach, Step, Mark, fresh, leave, finish}
+use Rattle.grammar.specs.Fused.{Outcome, left}
 use Rattle.grammar.proofs.Lines.{mark}
 use Rattle.quanta_token.specs.TokenKind.{code, Eof}
 use Rattle.quanta_grammar.specs.RefusalKind.{refusal_code, expected_token}
 use Rattle.quanta_grammar.specs.Productions.{Symbol, Production, grammar, outs}
 use Rattle.quanta_grammar.specs.Reading.{missed, wanted, reads}
 use Rattle.quanta_grammar.specs.Refine.{Text, plain_kind, marking}
-use Rattle.quanta_grammar.proofs.Steps.{go}
 use Rattle.quanta_cursor.specs.declared.parser.TokenPos.{TokenPos}
 use Rattle.quanta_cursor.specs.declared.parser.Span.{Span}
 use Rattle.quanta_cursor.specs.declared.parser.Node.{Node}
@@ -30,8 +29,8 @@ use Rattle.quanta_cursor.specs.Cursor.{err_at, Expects}
 use Rattle.quanta_cursor.proofs.Sets.{coarse, fine_in, is_one, not_one}
 use Rattle.quanta_cursor.proofs.Places.{past_as, laid_glue, ready_past}
 use Rattle.quanta_cursor.proofs.Meeting.{next_of, lacks_of}
-use Rattle.quanta_cursor.proofs.Doing.{Doing, eat, lack, fold_in, over, ends}
-use Rattle.quanta_cursor.proofs.Under.{leaf_of_lem, Under, leaves, worded, eat_word, folded, unfolded}
+use Rattle.quanta_cursor.proofs.Doing.{Doing, eat, lack, fold_in, ends}
+use Rattle.quanta_cursor.proofs.Under.{leaf_of_lem, Under, leaves, worded, folded, unfolded}
 use Rattle.quanta_param.specs.declared.decl.Eaten.{Eaten}
 use Rattle.quanta_param.specs.declared.decl.Opted.{Opted}
 use Rattle.quanta_param.specs.declared.decl.Opted.TheVariants as opted

@@ -5,7 +5,6 @@ use native.Mathlib.Omega.{arith}
 use Rattle.quanta_token.specs.TokenKind.{code, Comma}
 use Rattle.quanta_cursor.proofs.Places.{past_as}
 use Rattle.quanta_engine.proofs.Shut.{more_turn}
-use borrow.Author.Rules.{rules}
 use Rattle.quanta_engine.proofs.expr.argument.Goals as goal
 
 pub overflow_add-more : goal.overflow_add-more

@@ -3,12 +3,9 @@
 -- behind the `(`
 use mathlib.Core.Path.{sym, ◌∙◌}
 use Rattle.quanta_token.specs.TokenKind.{code, LParen}
-use Rattle.quanta_cursor.specs.Tokens.{Ready}
 use Rattle.quanta_cursor.proofs.Places.{past_as, ready_past, ready_small}
 use Rattle.quanta_cursor.proofs.Meeting.{left_of, spent_of}
-use Rattle.quanta_engine.specs.Frames.{many}
 use Rattle.quanta_engine.proofs.Suffixed.{spent_turn, empty_turn, call_turn}
-use borrow.Author.Rules.{rules}
 use Rattle.quanta_engine.proofs.expr.call.Goals as goal
 
 pub peek-requires : goal.peek-requires

@@ -8,7 +8,6 @@ use Rattle.quanta_cursor.proofs.Places.{took_ready}
 use Rattle.quanta_cursor.proofs.Meeting.{took_all, failed_all, took_of, failed_of}
 use Rattle.quanta_cursor.proofs.Lists.{took_more}
 use Rattle.quanta_expr.proofs.Arguments.{args_none, args_first, args_first_bad}
-use borrow.Author.Rules.{rules}
 use Rattle.quanta_engine.proofs.expr.call_args.Goals as goal
 
 pub more_args-requires : goal.more_args-requires

@@ -2,7 +2,6 @@
 -- Assumes nothing.
 use native.Mathlib.Omega.{arith}
 use Rattle.quanta_engine.proofs.Shut.{close_turn}
-use borrow.Author.Rules.{rules}
 use Rattle.quanta_engine.proofs.expr.closing.Goals as goal
 
 pub overflow_add-result : goal.overflow_add-result

@@ -5,7 +5,6 @@ use Rattle.quanta_token.specs.TokenKind.{code, Dot}
 use Rattle.quanta_cursor.proofs.Places.{past_as, ready_past}
 use Rattle.quanta_cursor.proofs.Meeting.{left_of, spent_of}
 use Rattle.quanta_engine.proofs.Suffixed.{spent_turn, dot_turn}
-use borrow.Author.Rules.{rules}
 use Rattle.quanta_engine.proofs.expr.dot.Goals as goal
 
 pub access-requires : goal.access-requires

@@ -2,7 +2,6 @@
 -- Assumes nothing.
 use mathlib.Core.Path.{ap}
 use Rattle.quanta_engine.specs.Turns.{staying}
-use borrow.Author.Rules.{rules}
 use Rattle.quanta_engine.proofs.expr.empty_call.Goals as goal
 
 pub returns-in-Refused : goal.returns-in-Refused

@@ -3,7 +3,6 @@
 use mathlib.Core.Path.{subst}
 use Rattle.quanta_cursor.specs.declared.parser.Span.{Span}
 use Rattle.quanta_engine.specs.Turns.{opening, Opens}
-use borrow.Author.Rules.{rules}
 use Rattle.quanta_engine.proofs.expr.enclose.Goals as goal
 
 pub returns : goal.returns

@@ -3,7 +3,6 @@
 use native.Mathlib.Omega.{arith}
 use Rattle.quanta_cursor.proofs.Meeting.{failed, left_of, spent_of}
 use Rattle.quanta_expr.proofs.Phrases.{expr_deep, expr_in}
-use borrow.Author.Rules.{rules}
 use Rattle.quanta_engine.proofs.expr.expr.Goals as goal
 
 pub run-requires : goal.run-requires

@@ -5,7 +5,6 @@ use native.Mathlib.Omega.{arith}
 use Rattle.quanta_engine.specs.Ranks.{rank}
 use Rattle.quanta_engine.specs.Frames.{here}
 use Rattle.quanta_engine.proofs.Reduced.{reduce_turn}
-use borrow.Author.Rules.{rules}
 use Rattle.quanta_engine.proofs.expr.follow.Goals as goal
 
 pub rank_of-level-requires : goal.rank_of-level-requires

@@ -3,7 +3,6 @@
 use native.Mathlib.Omega.{arith}
 use Rattle.quanta_engine.specs.Frames.{here}
 use Rattle.quanta_engine.proofs.Linked.{linking_past, link_turn}
-use borrow.Author.Rules.{rules}
 use Rattle.quanta_engine.proofs.expr.link.Goals as goal
 
 pub flag_of-requires : goal.flag_of-requires

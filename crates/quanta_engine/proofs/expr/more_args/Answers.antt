@@ -1,15 +1,12 @@
-use mathlib.Core.Path.{◌≡◌, refl, sym, ◌∙◌}
-use Prim.Native.Nat.{◌-◌}
+use mathlib.Core.Path.{refl, sym, ◌∙◌}
 use native.Mathlib.Omega.{arith}
 use Rattle.quanta_token.specs.TokenKind.{code, Comma}
-use Rattle.quanta_grammar.specs.Productions.{expr, more_args}
+use Rattle.quanta_grammar.specs.Productions.{expr}
 use Rattle.quanta_grammar.specs.Refine.{blank}
-use Rattle.quanta_cursor.specs.Tokens.{size, kind_at, Ready}
 use Rattle.quanta_cursor.proofs.Places.{past_as, ready_past, ready_small, took_onward, took_ready}
 use Rattle.quanta_cursor.proofs.Meeting.{took_all, failed_all, took_of, failed_of}
-use Rattle.quanta_cursor.proofs.Lists.{Rolling, rolling_in, rolling_on, rolled, arguments}
+use Rattle.quanta_cursor.proofs.Lists.{rolling_in, rolling_on, rolled, arguments}
 use Rattle.quanta_cursor.proofs.Lists.{comma_on, comma_bad, comma_stop, took_more}
-use borrow.Author.Rules.{rules}
 use Rattle.quanta_engine.proofs.expr.more_args.Goals as goal
 
 -- WHAT THE CALLS ASK

@@ -9,7 +9,6 @@ use Rattle.quanta_cursor.proofs.Places.{past_as, past_in}
 use Rattle.quanta_expr.proofs.Tables.{leaf_at, no_leaf_at, flagged_at, unflagged_at}
 use Rattle.quanta_engine.specs.Frames.{checked, wrapping, here}
 use Rattle.quanta_engine.proofs.Begun.{leaf_turn, prefix_turn, none_turn, parens_turn}
-use borrow.Author.Rules.{rules}
 use Rattle.quanta_engine.proofs.expr.operand.Goals as goal
 
 pub leaf_kind-literal-requires : goal.leaf_kind-literal-requires

@@ -3,7 +3,6 @@
 use mathlib.Core.Path.{ap}
 use Rattle.quanta_cursor.proofs.Meeting.{left_of, spent_of}
 use Rattle.quanta_engine.specs.Turns.{entered}
-use borrow.Author.Rules.{rules}
 use Rattle.quanta_engine.proofs.expr.push.Goals as goal
 
 pub returns-in-Refused : goal.returns-in-Refused

@@ -1,16 +1,10 @@
 -- `quanta_engine::expr::run` meets its contract. The invariant: what comes of the stack and the state is to come of the
 -- whole. The measure: two for each token ahead, and one for each opening.
 -- Assumes nothing.
-use mathlib.Core.Path.{refl, ◌∙◌}
 use Prim.Native.Nat.{◌+◌, ◌-◌, ◌*◌}
-use native.Mathlib.Omega.{arith}
 use Rattle.quanta_cursor.specs.Tokens.{size}
 use Rattle.quanta_engine.specs.Frames.{here}
 use Rattle.quanta_engine.specs.Runs.{Running}
-use Rattle.quanta_engine.proofs.Running.{run_in, run_low, run_poised, run_bad, run_done, open_room, shut_some}
-use Rattle.quanta_engine.proofs.Running.{run_stay, run_open, run_more, run_shut}
-use Rattle.quanta_engine.proofs.Running.{stay_less, open_less, more_less, shut_less}
-use borrow.Author.Rules.{rules}
 use Rattle.quanta_engine.proofs.expr.run.Given as goal
 
 abbrev pub invariant-loop-e : goal.invariant-loop-e

@@ -2,7 +2,6 @@
 -- Assumes nothing.
 use native.Mathlib.Omega.{arith}
 use Rattle.quanta_engine.proofs.Shut.{whole_turn, parens_turn}
-use borrow.Author.Rules.{rules}
 use Rattle.quanta_engine.proofs.expr.shut.Goals as goal
 
 pub overflow_add-result : goal.overflow_add-result

@@ -1,6 +1,5 @@
 -- `quanta_engine::expr::step` meets its contract: what the function that it calls ensures.
 -- Assumes nothing.
-use borrow.Author.Rules.{rules}
 use Rattle.quanta_engine.proofs.expr.step.Goals as goal
 
 pub returns-in-43 : goal.returns-in-43

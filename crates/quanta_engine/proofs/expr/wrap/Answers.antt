@@ -1,15 +1,13 @@
 -- `quanta_engine::expr::wrap` meets its contract: a keyword, and its `(` or another token.
 -- Assumes nothing.
 -- another token stands behind the keyword
-use Prim.Native.Nat.{◌+◌, ◌<◌}
+use Prim.Native.Nat.{◌<◌}
 use native.Mathlib.Omega.{arith}
 use Rattle.quanta_token.specs.TokenKind.{code, LParen}
 use Rattle.quanta_cursor.specs.Tokens.{size}
 use Rattle.quanta_cursor.proofs.Places.{past_as}
 use Rattle.quanta_cursor.proofs.Meeting.{next_of, lacks_of}
-use Rattle.quanta_engine.specs.Frames.{here}
 use Rattle.quanta_engine.proofs.Begun.{keyword_past, unwrapped_turn, wrap_turn}
-use borrow.Author.Rules.{rules}
 use Rattle.quanta_engine.proofs.expr.wrap.Goals as goal
 
 pub expect-requires : goal.expect-requires

@@ -3,7 +3,6 @@
 use native.Mathlib.Omega.{arith}
 use Rattle.quanta_engine.proofs.Entries.{inside, outside}
 use Rattle.quanta_engine.proofs.Tables.{ranks, ranks_right}
-use borrow.Author.Rules.{rules}
 use Rattle.quanta_engine.proofs.table.rank_of.Goals as goal
 
 pub returns-in-47-to-61 : goal.returns-in-47-to-61

@@ -1,24 +1,9 @@
-use borrow.Author.Rules.{rules}
-use native.Mathlib.Omega.{arith}
-use mathlib.Core.Path.{refl, sym, ◌∙◌}
 use Prim.Native.Nat.{◌+◌, ◌-◌, ◌*◌}
-use Rattle.quanta_token.specs.TokenKind.{code, Dot, LParen, RParen, Comma, Checked, Wrapping, OrOr, AndAnd, Shr}
-use Rattle.quanta_grammar.specs.NodeKind.{unary_node, binary_node}
 use Rattle.quanta_grammar.specs.Productions as pr
 use Rattle.quanta_grammar.specs.Productions.{operators, prefixes}
 use Rattle.quanta_cursor.specs.Tokens.{size}
-use Rattle.quanta_cursor.proofs.Sets.{not_one}
-use Rattle.quanta_cursor.proofs.Places.{past_as, ready_past, ready_small, ready_few, took_onward, took_ready, all_onward, all_ready, all_few}
-use Rattle.quanta_cursor.proofs.Meeting.{took, failed, failed_by, took_all, failed_all, took_of, failed_of, all_of, all_failed_of, left_of, spent_of, next_of, lacks_of}
-use Rattle.quanta_cursor.proofs.Lists.{Rolling, rolling_in, rolling_on, rolled, arguments, comma_on, comma_bad, comma_stop, took_more}
-use Rattle.quanta_cursor.proofs.Doing.{close_ready}
-use Rattle.quanta_expr.proofs.Tables.{flagged_at, unflagged_at, leaf_at, no_leaf_at}
-use Rattle.quanta_expr.proofs.Chains.{no_shift, Chain, chain_in, chain_on, operates, link_past, level_first, level_bad, link_stop, link_deep, link_bad, link_on, link_ready}
-use Rattle.quanta_expr.proofs.Suffixes.{postfix_first, postfix_bad, is_start, suffix_stop, suffix_deep, dot_bad, dot_on, args_bad, call_bad, call_on, start_past, access_of, no_access_of, dot_ready}
-use Rattle.quanta_expr.proofs.Phrases.{expr_deep, expr_in, unary_plain, unary_deep, unary_bad, unary_took, prefix_past, leaf_took, primary_none, parens_bad, parens_met, at_checked, at_wrapping, wrap_unopened, wrap_bad, wrap_met}
-use Rattle.quanta_expr.proofs.Arguments.{args_none, args_first, args_first_bad}
-use Prim.Native.Nat.{ℕ, ◌<◌}
-use Rattle.quanta_grammar.specs.Refine.{blank}
+use Rattle.quanta_cursor.proofs.Lists.{Rolling}
+use Rattle.quanta_expr.proofs.Chains.{Chain}
 use Rattle.quanta_expr.proofs.expr.+ring.Given as goal
 
 abbrev pub decreases-additive : goal.decreases-additive

@@ -1,7 +1,6 @@
 -- `quanta_expr::expr::access` meets its contract.
 -- Assumes nothing.
 use Rattle.quanta_expr.proofs.Suffixes.{no_name, named_few, named}
-use borrow.Author.Rules.{rules}
 use Rattle.quanta_expr.proofs.expr.access.Goals as goal
 
 pub put-requires : goal.put-requires

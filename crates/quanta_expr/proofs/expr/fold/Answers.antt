@@ -3,7 +3,6 @@
 use mathlib.Core.Path.{refl}
 use Prim.Native.Nat.{◌+◌}
 use Rattle.quanta_cursor.proofs.Nodes.{node_is, words_are}
-use borrow.Author.Rules.{rules}
 use Rattle.quanta_expr.proofs.expr.fold.Goals as goal
 
 pub returns : goal.returns

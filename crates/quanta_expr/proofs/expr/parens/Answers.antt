@@ -4,7 +4,6 @@ use mathlib.Core.Path.{refl}
 use Prim.Native.Nat.{◌+◌}
 use Rattle.quanta_cursor.proofs.Nodes.{node_is}
 use Rattle.quanta_cursor.proofs.Meeting.{next_of, lacks_of}
-use borrow.Author.Rules.{rules}
 use Rattle.quanta_expr.proofs.expr.parens.Goals as goal
 
 pub returns-in-Refused : goal.returns-in-Refused

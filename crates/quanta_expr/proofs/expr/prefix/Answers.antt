@@ -5,7 +5,6 @@ use Prim.Native.Nat.{◌+◌}
 use Rattle.quanta_cursor.specs.declared.parser.Span.{Span}
 use Rattle.quanta_cursor.specs.Cursor.{joined}
 use Rattle.quanta_cursor.proofs.Nodes.{node_is, words_are}
-use borrow.Author.Rules.{rules}
 use Rattle.quanta_expr.proofs.expr.prefix.Goals as goal
 
 pub returns : goal.returns

@@ -4,7 +4,6 @@ use mathlib.Core.Path.{subst}
 use Rattle.quanta_token.specs.TokenKind.{code, RParen}
 use Rattle.quanta_cursor.specs.declared.parser.Span.{Span}
 use Rattle.quanta_cursor.specs.Cursor.{Closes}
-use borrow.Author.Rules.{rules}
 use Rattle.quanta_expr.proofs.expr.wrap.Goals as goal
 
 pub returns : goal.returns

@@ -1,7 +1,6 @@
 -- `quanta_param::decl::close_field` meets its contract.
 -- Assumes nothing.
 use Rattle.quanta_cursor.proofs.Under.{closes_as}
-use borrow.Author.Rules.{rules}
 use Rattle.quanta_param.proofs.decl.close_field.Goals as goal
 
 pub returns : goal.returns

@@ -2,7 +2,6 @@
 -- Assumes nothing.
 use mathlib.Core.Path.{refl, sym, ◌∙◌}
 use mathlib.Core.Logic.{inl, inr}
-use borrow.Author.Rules.{rules}
 use Rattle.quanta_param.proofs.decl.eat.Goals as goal
 
 pub returns-then-peek-want : goal.returns-then-peek-want

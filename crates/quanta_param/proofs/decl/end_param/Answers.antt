@@ -4,7 +4,6 @@ use mathlib.Core.Path.{refl}
 use Prim.Native.Nat.{◌+◌}
 use Rattle.quanta_grammar.specs.NodeKind.{node_code, param_node}
 use Rattle.quanta_cursor.proofs.Nodes.{node_is, words_are}
-use borrow.Author.Rules.{rules}
 use Rattle.quanta_param.proofs.decl.end_param.Goals as goal
 
 pub returns : goal.returns

@@ -1,11 +1,10 @@
 -- `quanta_param::decl::field_decl` meets its contract.
 -- Assumes nothing.
 use Rattle.quanta_grammar.specs.Refine.{text}
-use mathlib.Core.Path.{refl, ◌∙◌}
+use mathlib.Core.Path.{refl}
 use native.Mathlib.Omega.{arith}
 use Rattle.quanta_cursor.proofs.Meeting.{failed}
 use Rattle.quanta_param.proofs.Fields.{meta_ready, meta_few, field_nameless, named_ready, field_colonless, colon_ready, field_typeless, half_place, field_halved, typed_ready, field_defaultless, field_plain, default_ready, field_valued}
-use borrow.Author.Rules.{rules}
 use Rattle.quanta_param.proofs.decl.field_decl.Goals as goal
 
 pub expect_ident-requires : goal.expect_ident-requires

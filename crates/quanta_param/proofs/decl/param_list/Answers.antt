@@ -4,7 +4,6 @@ use Rattle.quanta_grammar.specs.Refine.{text}
 use mathlib.Core.Path.{refl}
 use Rattle.quanta_cursor.proofs.Meeting.{took_all, failed_all}
 use Rattle.quanta_param.proofs.Params.{list_unopened, open_ready, list_refused, half_place, list_halved, full_ready, list_unclosed, list_closed}
-use borrow.Author.Rules.{rules}
 use Rattle.quanta_param.proofs.decl.param_list.Goals as goal
 
 pub params-requires : goal.params-requires

@@ -1,16 +1,11 @@
-use mathlib.Core.Path.{◌≡◌, refl, sym, ◌∙◌}
-use Prim.Native.Nat.{◌-◌}
-use Rattle.quanta_token.specs.TokenKind.{code, RParen}
+use mathlib.Core.Path.{refl, sym, ◌∙◌}
 use native.Mathlib.Omega.{arith}
-use borrow.Author.Rules.{rules}
 use Rattle.grammar.specs.Records.{fresh}
-use Rattle.quanta_grammar.specs.Productions.{param, more_params}
 use Rattle.quanta_grammar.specs.Refine.{text}
-use Rattle.quanta_cursor.specs.Tokens.{size, kind_at}
 use Rattle.quanta_cursor.proofs.Places.{ready_small}
 use Rattle.quanta_cursor.proofs.Lists.{parameters}
-use Rattle.quanta_type.proofs.Arguments.{Awaits, begun, no_element, half_element, half_few, Element, element}
-use Rattle.quanta_type.proofs.Arguments.{behind, same_long, one_more, list_over, next_awaits, next_further}
+use Rattle.quanta_type.proofs.Arguments.{begun, no_element, half_element, half_few, element}
+use Rattle.quanta_type.proofs.Arguments.{behind, one_more, list_over, next_awaits, next_further}
 use Rattle.quanta_param.proofs.Params.{params_none, params_some}
 use Rattle.quanta_param.proofs.decl.params.Goals as goal
 

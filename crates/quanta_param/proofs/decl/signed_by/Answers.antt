@@ -1,11 +1,9 @@
 -- `quanta_param::decl::signed_by` meets its contract.
 -- Assumes nothing.
 use mathlib.Core.Path.{refl, sym, ◌∙◌}
-use mathlib.Core.List.{[]}
 use Rattle.grammar.specs.Records.{fresh}
 use Rattle.quanta_param.proofs.Options.{missing, took_opt, failed_opt}
 use Rattle.quanta_param.proofs.Params.{signer_missing, signer_past, signer_byless, by_ready, signer_nameless, signer_took}
-use borrow.Author.Rules.{rules}
 use Rattle.quanta_grammar.specs.Refine.{blank}
 use Rattle.quanta_param.proofs.decl.signed_by.Goals as goal
 

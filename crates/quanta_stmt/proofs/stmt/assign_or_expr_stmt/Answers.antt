@@ -1,6 +1,6 @@
 -- `quanta_stmt::stmt::assign_or_expr_stmt` meets its contract.
 -- Assumes nothing.
-use mathlib.Core.Path.{refl, ◌∙◌}
+use mathlib.Core.Path.{refl}
 use Rattle.quanta_grammar.specs.NodeKind.{assign_node}
 use Rattle.quanta_grammar.specs.Productions.{expr, assigns}
 use Rattle.quanta_grammar.specs.Refine.{blank}
@@ -8,7 +8,6 @@ use Rattle.quanta_cursor.proofs.Places.{ready_small, took_ready}
 use Rattle.quanta_cursor.proofs.Meeting.{took_of, failed_of, failed}
 use Rattle.quanta_expr.proofs.Tables.{flagged_at, unflagged_at}
 use Rattle.quanta_stmt.proofs.Assigning.{subject_bad, expr_met, no_target, assign_bad, assign_met, assign_ready}
-use borrow.Author.Rules.{rules}
 use Rattle.quanta_stmt.proofs.stmt.assign_or_expr_stmt.Goals as goal
 
 pub peek-requires : goal.peek-requires

@@ -1,6 +1,5 @@
 -- `quanta_stmt::stmt::emit_stmt` meets its contract.
 -- Assumes nothing.
-use mathlib.Core.Path.{◌∙◌}
 use native.Mathlib.Omega.{arith}
 use Rattle.quanta_token.specs.TokenKind.{code, Emit, LParen, RParen}
 use Rattle.quanta_grammar.specs.Productions.{args}
@@ -8,7 +7,6 @@ use Rattle.quanta_grammar.specs.Refine.{blank}
 use Rattle.quanta_cursor.proofs.Places.{past_as, ready_past, ready_small, all_ready, all_few}
 use Rattle.quanta_cursor.proofs.Meeting.{all_of, all_failed_of, failed}
 use Rattle.quanta_stmt.proofs.Keywords.{name_ready, next_ready, emit_unnamed, emit_unopened, emit_bad, emit_unclosed, emit_met}
-use borrow.Author.Rules.{rules}
 use Rattle.quanta_stmt.proofs.stmt.emit_stmt.Goals as goal
 
 pub expect_ident-requires : goal.expect_ident-requires

@@ -6,7 +6,6 @@ use Rattle.quanta_grammar.specs.Refine.{blank}
 use Rattle.quanta_cursor.proofs.Places.{past_as, ready_past, ready_small, took_ready}
 use Rattle.quanta_cursor.proofs.Meeting.{took_of, failed_of, failed}
 use Rattle.quanta_stmt.proofs.Keywords.{guard_bad, guard_met}
-use borrow.Author.Rules.{rules}
 use Rattle.quanta_stmt.proofs.stmt.guard_stmt.Goals as goal
 
 pub expr-requires : goal.expr-requires

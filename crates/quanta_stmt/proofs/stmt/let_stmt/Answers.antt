@@ -1,13 +1,11 @@
 -- `quanta_stmt::stmt::let_stmt` meets its contract.
 -- Assumes nothing.
-use mathlib.Core.Path.{◌∙◌}
 use Rattle.quanta_token.specs.TokenKind.{code, Let, Eq}
 use Rattle.quanta_grammar.specs.Productions.{expr}
 use Rattle.quanta_grammar.specs.Refine.{blank}
 use Rattle.quanta_cursor.proofs.Places.{past_as, ready_past, ready_small, took_ready}
 use Rattle.quanta_cursor.proofs.Meeting.{took_of, failed_of, failed}
 use Rattle.quanta_stmt.proofs.Keywords.{name_ready, next_ready, let_unnamed, let_unset, let_bad, let_met}
-use borrow.Author.Rules.{rules}
 use Rattle.quanta_stmt.proofs.stmt.let_stmt.Goals as goal
 
 pub expect_ident-requires : goal.expect_ident-requires
