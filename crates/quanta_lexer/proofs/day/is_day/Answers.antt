@@ -1,7 +1,6 @@
 -- `quanta_lexer::day::is_day` meets its contract.
 -- Assumes nothing.
 use Rattle.quanta_lexer.specs.Days.{day_at}
-use borrow.Author.Rules.{rules}
 use Rattle.quanta_lexer.proofs.day.is_day.Goals as goal
 
 pub returns : goal.returns

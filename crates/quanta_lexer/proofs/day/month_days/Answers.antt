@@ -2,7 +2,6 @@
 -- Assumes nothing.
 use mathlib.Core.Path.{sym}
 use Rattle.quanta_lexer.proofs.DayLaws.{no_month, leap_february, in_row}
-use borrow.Author.Rules.{rules}
 use Rattle.quanta_lexer.proofs.day.month_days.Goals as goal
 
 pub returns-then-month-gt-DECEMBER : goal.returns-then-month-gt-DECEMBER

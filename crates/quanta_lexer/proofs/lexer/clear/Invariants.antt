@@ -1,12 +1,8 @@
 -- After i turns the first i words are 0.
-use Prim.Native.Nat.{ℕ, ◌≤◌, ◌-◌}
-use mathlib.Core.Path.{◌≡◌, refl, ap, ◌∙◌}
-use mathlib.Core.List.{List, ◌++◌, append-nil}
-use lib.Seq.{drop-length}
-use lib.ListN.{length, replicate, drop, set, length-set}
-use native.Mathlib.Omega.{arith}
-use borrow.Author.Fill.{fill_none, fill_more}
-use borrow.Author.Rules.{rules}
+use Prim.Native.Nat.{◌≤◌, ◌-◌}
+use mathlib.Core.Path.{◌≡◌}
+use mathlib.Core.List.{◌++◌}
+use lib.ListN.{length, replicate, drop}
 use Rattle.quanta_lexer.proofs.lexer.clear.Given as goal
 
 abbrev pub invariant-loop-i : goal.invariant-loop-i

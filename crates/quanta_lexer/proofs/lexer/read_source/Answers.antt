@@ -14,7 +14,6 @@ use Rattle.quanta_source.specs.Source.{checked}
 use Rattle.quanta_lexer.specs.Tokens.{read_of, lex_all}
 use Rattle.quanta_lexer.specs.Tokenizing.{reading, or_else, well_or, clean_or}
 use Rattle.quanta_lexer.proofs.TokenizingLaws.{bad_place, return_place, barred_place, unwritten, written}
-use borrow.Author.Rules.{rules}
 use Rattle.quanta_lexer.proofs.lexer.read_source.Goals as goal
 
 -- the table is well formed, and neither is too long
@@ -34,25 +33,23 @@ returns-then-words-gt-TABLE_LIMIT c = (rw (lt-ltb _ _ c.if-words-gt-TABLE_LIMIT.
 
 pub returns-then-bad-words : goal.returns-then-bad-words
 unfolding reading or_else
-returns-then-bad-words c =
-    (
-      rw (le-ltb _ _ c.if-words-gt-TABLE_LIMIT.false, ← c.check_words-bad.ensures, lt-ltb _ _ c.if-bad-words.true) c.stopped-then-bad-words.ensures,
-      unwritten _ _ _ c.stopped-then-bad-words.ensures,
-    )
+returns-then-bad-words c = (
+  rw (le-ltb _ _ c.if-words-gt-TABLE_LIMIT.false, ← c.check_words-bad.ensures, lt-ltb _ _ c.if-bad-words.true) c.stopped-then-bad-words.ensures,
+  unwritten _ _ _ c.stopped-then-bad-words.ensures,
+)
 
 pub returns-then-src-gt-SOURCE_LIMIT : goal.returns-then-src-gt-SOURCE_LIMIT
 unfolding reading or_else
-returns-then-src-gt-SOURCE_LIMIT c =
-    (
-      rw (
-        le-ltb _ _ c.if-words-gt-TABLE_LIMIT.false,
-        ← c.check_words-bad.ensures,
-        le-ltb _ _ c.if-bad-words.false,
-        lt-ltb _ _ c.if-src-gt-SOURCE_LIMIT.true,
-      )
-          c.stopped-then-src-gt-SOURCE_LIMIT.ensures,
-      unwritten _ _ _ c.stopped-then-src-gt-SOURCE_LIMIT.ensures,
-    )
+returns-then-src-gt-SOURCE_LIMIT c = (
+  rw (
+    le-ltb _ _ c.if-words-gt-TABLE_LIMIT.false,
+    ← c.check_words-bad.ensures,
+    le-ltb _ _ c.if-bad-words.false,
+    lt-ltb _ _ c.if-src-gt-SOURCE_LIMIT.true,
+  )
+      c.stopped-then-src-gt-SOURCE_LIMIT.ensures,
+  unwritten _ _ _ c.stopped-then-src-gt-SOURCE_LIMIT.ensures,
+)
 
 pub overflow_add-i : goal.overflow_add-i
 overflow_add-i c =
@@ -60,11 +57,10 @@ overflow_add-i c =
 
 pub returns-in-At : goal.returns-in-At
 unfolding well_or
-returns-in-At c =
-    (
-      rw (past-limits _ _ _ _ c.if-words-gt-TABLE_LIMIT.false c.check_words-bad.ensures c.if-bad-words.false c.if-src-gt-SOURCE_LIMIT.false, sym c.first_bad.ensures ∙ c.in-At.is) c.stopped-in-At.ensures,
-      unwritten _ _ _ c.stopped-in-At.ensures,
-    )
+returns-in-At c = (
+  rw (past-limits _ _ _ _ c.if-words-gt-TABLE_LIMIT.false c.check_words-bad.ensures c.if-bad-words.false c.if-src-gt-SOURCE_LIMIT.false, sym c.first_bad.ensures ∙ c.in-At.is) c.stopped-in-At.ensures,
+  unwritten _ _ _ c.stopped-in-At.ensures,
+)
 
 pub overflow_add-i-in-CarriageReturn : goal.overflow_add-i-in-CarriageReturn
 overflow_add-i-in-CarriageReturn c =

@@ -1,6 +1,5 @@
 use mathlib.Core.Path.{sym}
 use lib.Seq.{length-take-le}
-use borrow.Author.Rules.{rules}
 use Rattle.quanta_lexer.proofs.lexer.run_indexed.Goals as goal
 
 pub slice_bounds-run-end-2 : goal.slice_bounds-run-end-2

@@ -5,7 +5,6 @@ use lib.ListN.{length}
 use native.Mathlib.Omega.{arith}
 use Rattle.quanta_lexer.proofs.TokenizingLaws.{is_refused, is_short, is_accepted}
 use Rattle.quanta_lexer.proofs.TokenizingLaws.{words_refused, words_short, words_accepted}
-use borrow.Author.Rules.{rules}
 use Rattle.quanta_lexer.proofs.lexer.tokenize.Goals as goal
 
 pub returns-then-tokens-n : goal.returns-then-tokens-n

@@ -2,7 +2,6 @@ use mathlib.Core.Path.{sym}
 use native.Mathlib.Omega.{arith}
 use lib.ListN.{length-set}
 use Rattle.quanta_lexer.proofs.TokensLaws.{store_room, store_full}
-use borrow.Author.Rules.{rules}
 use Rattle.quanta_lexer.proofs.lexer.write_token.Goals as goal
 
 pub bounds-tokens-at-then-at-tokens : goal.bounds-tokens-at-then-at-tokens

@@ -1,4 +1,3 @@
-use borrow.Author.Rules.{rules}
 use Rattle.quanta_lexer.proofs.scan.is_comment_at.Goals as goal
 
 pub returns : goal.returns

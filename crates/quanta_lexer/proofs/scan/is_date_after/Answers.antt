@@ -1,5 +1,4 @@
 use borrow.Author.Tests.{eq-eqb, ne_eqb}
-use borrow.Author.Rules.{rules}
 use Rattle.quanta_lexer.proofs.scan.is_date_after.Goals as goal
 
 pub returns-then-c-ne64 : goal.returns-then-c-ne64

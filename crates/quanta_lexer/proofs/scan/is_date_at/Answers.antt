@@ -1,7 +1,6 @@
 use mathlib.Core.Path.{sym, ◌∙◌}
 use Rattle.quanta_lexer.specs.Scan.{date_at}
 use Rattle.quanta_lexer.proofs.ScanLaws.{no_dash}
-use borrow.Author.Rules.{rules}
 use Rattle.quanta_lexer.proofs.scan.is_date_at.Goals as goal
 
 pub returns-then-peek-ne45 : goal.returns-then-peek-ne45

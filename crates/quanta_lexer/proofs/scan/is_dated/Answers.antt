@@ -1,6 +1,5 @@
 -- `quanta_lexer::scan::is_dated` meets its contract.
 -- Assumes nothing.
-use borrow.Author.Rules.{rules}
 use Rattle.quanta_lexer.proofs.scan.is_dated.Goals as goal
 
 pub returns-in-Two : goal.returns-in-Two

@@ -2,7 +2,6 @@ use mathlib.Core.Path.{ap, ◌∙◌}
 use native.Mathlib.Omega.{arith}
 use Rattle.quanta_token.specs.Bytes.{digit}
 use Rattle.quanta_token.proofs.ByteLaws.{digit_class}
-use borrow.Author.Rules.{rules}
 use Rattle.quanta_lexer.proofs.scan.is_digit_at.Goals as goal
 
 pub returns : goal.returns

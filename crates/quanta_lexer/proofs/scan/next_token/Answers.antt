@@ -5,7 +5,6 @@ use native.Mathlib.Omega.{arith}
 use borrow.Author.Tests.{eq-eqb, ne_eqb, lt-ltb, le-ltb}
 use Rattle.quanta_token.proofs.ByteLaws.{word_start_class, digit_class, quote_class}
 use Rattle.quanta_lexer.specs.Scan.{token_at, choose}
-use borrow.Author.Rules.{rules}
 use Rattle.quanta_lexer.proofs.scan.next_token.Goals as goal
 
 pub returns-then-src-start : goal.returns-then-src-start

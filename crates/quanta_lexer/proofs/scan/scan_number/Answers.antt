@@ -1,6 +1,5 @@
 use mathlib.Core.Path.{sym, ◌∙◌}
 use Rattle.quanta_lexer.specs.Scan.{number_at, choose}
-use borrow.Author.Rules.{rules}
 use Rattle.quanta_lexer.proofs.scan.scan_number.Goals as goal
 
 pub returns-then-is_date_at : goal.returns-then-is_date_at

@@ -3,7 +3,6 @@ use native.Mathlib.Omega.{arith}
 use borrow.Author.Tests.{eq-eqb, ne_eqb}
 use Rattle.quanta_token.proofs.RunLaws.{end_bounds}
 use Rattle.quanta_lexer.specs.Scan.{string_at, choose}
-use borrow.Author.Rules.{rules}
 use Rattle.quanta_lexer.proofs.scan.scan_string.Goals as goal
 
 pub overflow_add-quote : goal.overflow_add-quote

@@ -9,7 +9,6 @@ use borrow.Author.Tests.{eq-eqb, ne_eqb}
 use Rattle.quanta_token.proofs.BoolLaws.{both}
 use Rattle.quanta_lexer.specs.Scan.{date_at, symbol_at, choose}
 use Rattle.quanta_lexer.proofs.ScanLaws.{date_inside}
-use borrow.Author.Rules.{rules}
 use Rattle.quanta_lexer.proofs.scan.scan_symbol.Goals as goal
 
 pub is_dated-requires : goal.is_dated-requires

@@ -1,9 +1,5 @@
-use Prim.Native.Nat.{◌≤◌, ◌<◌, ◌-◌}
-use mathlib.Core.Path.{◌≡◌, refl, sym, ◌∙◌}
-use lib.ListN.{length}
+use mathlib.Core.Path.{refl, sym, ◌∙◌}
 use native.Mathlib.Omega.{arith}
-use borrow.Author.Tests.{not-true, not-false}
-use Rattle.quanta_lexer.specs.Trivia.{trivia_end}
 use Rattle.quanta_token.proofs.RunLaws.{end_bounds}
 use Rattle.quanta_lexer.proofs.TriviaLaws.{turn_stop, turn_more}
 use Rattle.quanta_lexer.proofs.scan.skip_trivia.Goals as goal

@@ -1,12 +1,8 @@
 -- What is left to skip from i is what was left at the start; a turn takes blanks, and a comment if one stands there.
-use Prim.Native.Nat.{◌≤◌, ◌<◌, ◌-◌}
-use mathlib.Core.Path.{◌≡◌, refl, sym, ◌∙◌}
+use Prim.Native.Nat.{◌≤◌, ◌-◌}
+use mathlib.Core.Path.{◌≡◌}
 use lib.ListN.{length}
-use native.Mathlib.Omega.{arith}
-use borrow.Author.Tests.{not-true, not-false}
 use Rattle.quanta_lexer.specs.Trivia.{trivia_end}
-use Rattle.quanta_token.proofs.RunLaws.{end_bounds}
-use Rattle.quanta_lexer.proofs.TriviaLaws.{turn_stop, turn_more}
 use Rattle.quanta_lexer.proofs.scan.skip_trivia.Given as goal
 
 abbrev pub invariant-loop-i : goal.invariant-loop-i
