@@ -27,29 +27,24 @@ past-limits :
 unfolding reading or_else
 past-limits ed s t bad h e w l = rw (le-ltb _ _ h, ← e, le-ltb _ _ w, le-ltb _ _ l)
 
-pub returns-then-words-gt-TABLE_LIMIT : goal.returns-then-words-gt-TABLE_LIMIT
-unfolding reading or_else
-returns-then-words-gt-TABLE_LIMIT c = (rw (lt-ltb _ _ c.if-words-gt-TABLE_LIMIT.true) c.stopped.ensures, unwritten _ _ _ c.stopped.ensures)
-
 pub returns-then-bad-words : goal.returns-then-bad-words
 unfolding reading or_else
-returns-then-bad-words c = (
-  rw (le-ltb _ _ c.if-words-gt-TABLE_LIMIT.false, ← c.check_words-bad.ensures, lt-ltb _ _ c.if-bad-words.true) c.stopped-then-bad-words.ensures,
-  unwritten _ _ _ c.stopped-then-bad-words.ensures,
-)
+returns-then-bad-words c =
+    let short : length c.args.words.now ≤ table_limit = omega arith in
+    let e = c.stopped-then-bad-words.ensures in (
+      rw (le-ltb _ _ short, ← c.check_words-bad.ensures, lt-ltb _ _ c.if-bad-words.true) e,
+      unwritten _ _ _ e,
+    )
 
 pub returns-then-src-gt-SOURCE_LIMIT : goal.returns-then-src-gt-SOURCE_LIMIT
 unfolding reading or_else
-returns-then-src-gt-SOURCE_LIMIT c = (
-  rw (
-    le-ltb _ _ c.if-words-gt-TABLE_LIMIT.false,
-    ← c.check_words-bad.ensures,
-    le-ltb _ _ c.if-bad-words.false,
-    lt-ltb _ _ c.if-src-gt-SOURCE_LIMIT.true,
-  )
-      c.stopped-then-src-gt-SOURCE_LIMIT.ensures,
-  unwritten _ _ _ c.stopped-then-src-gt-SOURCE_LIMIT.ensures,
-)
+returns-then-src-gt-SOURCE_LIMIT c =
+    let short : length c.args.words.now ≤ table_limit = omega arith in
+    let e = c.stopped-then-src-gt-SOURCE_LIMIT.ensures in
+    let well = le-ltb _ _ c.if-bad-words.false in (
+      rw (le-ltb _ _ short, ← c.check_words-bad.ensures, well, lt-ltb _ _ c.if-src-gt-SOURCE_LIMIT.true) e,
+      unwritten _ _ _ e,
+    )
 
 pub overflow_add-i : goal.overflow_add-i
 overflow_add-i c =
@@ -57,10 +52,15 @@ overflow_add-i c =
 
 pub returns-in-At : goal.returns-in-At
 unfolding well_or
-returns-in-At c = (
-  rw (past-limits _ _ _ _ c.if-words-gt-TABLE_LIMIT.false c.check_words-bad.ensures c.if-bad-words.false c.if-src-gt-SOURCE_LIMIT.false, sym c.first_bad.ensures ∙ c.in-At.is) c.stopped-in-At.ensures,
-  unwritten _ _ _ c.stopped-in-At.ensures,
-)
+returns-in-At c =
+    let short : length c.args.words.now ≤ table_limit = omega arith in
+    let e = c.stopped-in-At.ensures in
+    let late =
+    past-limits c.args.edition _ _ _ short c.check_words-bad.ensures c.if-bad-words.false
+    c.if-src-gt-SOURCE_LIMIT.false in (
+      rw (late, sym c.first_bad.ensures ∙ c.in-At.is) e,
+      unwritten _ _ _ e,
+    )
 
 pub overflow_add-i-in-CarriageReturn : goal.overflow_add-i-in-CarriageReturn
 overflow_add-i-in-CarriageReturn c =
@@ -73,24 +73,38 @@ overflow_add-i-in-Barred c =
 pub returns-in-CarriageReturn : goal.returns-in-CarriageReturn
 unfolding well_or clean_or
 returns-in-CarriageReturn c =
-    let well = sym c.first_bad.ensures ∙ c.in_default.is in (
-      rw (past-limits _ _ _ _ c.if-words-gt-TABLE_LIMIT.false c.check_words-bad.ensures c.if-bad-words.false c.if-src-gt-SOURCE_LIMIT.false, well, sym c.check_source.ensures ∙ c.in-CarriageReturn.is) c.stopped-in-CarriageReturn.ensures,
-      unwritten _ _ _ c.stopped-in-CarriageReturn.ensures,
+    let short : length c.args.words.now ≤ table_limit = omega arith in
+    let e = c.stopped-in-CarriageReturn.ensures in
+    let well = sym c.first_bad.ensures ∙ c.in_default.is in
+    let late =
+    past-limits c.args.edition _ _ _ short c.check_words-bad.ensures c.if-bad-words.false
+    c.if-src-gt-SOURCE_LIMIT.false in (
+      rw (late, well, sym c.check_source.ensures ∙ c.in-CarriageReturn.is) e,
+      unwritten _ _ _ e,
     )
 
 pub returns-in-Barred : goal.returns-in-Barred
 unfolding well_or clean_or
 returns-in-Barred c =
-    let well = sym c.first_bad.ensures ∙ c.in_default.is in (
-      rw (past-limits _ _ _ _ c.if-words-gt-TABLE_LIMIT.false c.check_words-bad.ensures c.if-bad-words.false c.if-src-gt-SOURCE_LIMIT.false, well, sym c.check_source.ensures ∙ c.in-Barred.is) c.stopped-in-Barred.ensures,
-      unwritten _ _ _ c.stopped-in-Barred.ensures,
+    let short : length c.args.words.now ≤ table_limit = omega arith in
+    let e = c.stopped-in-Barred.ensures in
+    let well = sym c.first_bad.ensures ∙ c.in_default.is in
+    let late =
+    past-limits c.args.edition _ _ _ short c.check_words-bad.ensures c.if-bad-words.false
+    c.if-src-gt-SOURCE_LIMIT.false in (
+      rw (late, well, sym c.check_source.ensures ∙ c.in-Barred.is) e,
+      unwritten _ _ _ e,
     )
 
 pub returns-in-Clean : goal.returns-in-Clean
 unfolding well_or clean_or
 returns-in-Clean c =
+    let short : length c.args.words.now ≤ table_limit = omega arith in
+    let read = c.run_by_size.ensures in
     let well = sym c.first_bad.ensures ∙ c.in_default.is in
-    let read = c.run_by_size.ensures in (
-      rw (past-limits _ _ _ _ c.if-words-gt-TABLE_LIMIT.false c.check_words-bad.ensures c.if-bad-words.false c.if-src-gt-SOURCE_LIMIT.false, well, sym c.check_source.ensures ∙ c.in-Clean.is) read.0,
+    let late =
+    past-limits c.args.edition _ _ _ short c.check_words-bad.ensures c.if-bad-words.false
+    c.if-src-gt-SOURCE_LIMIT.false in (
+      rw (late, well, sym c.check_source.ensures ∙ c.in-Clean.is) read.0,
       written _ _ _ _ read.0 read.1,
     )
