@@ -16,7 +16,8 @@ use Rattle.quanta_source.specs.Source.{bare_at, barred_at, check_from, checked}
 use Rattle.quanta_source.specs.declared.source.Checked.{Checked}
 use Rattle.quanta_source.specs.declared.source.Checked.TheVariants.{Clean, CarriageReturn, Barred}
 use Rattle.quanta_lexer.specs.Tokens.{Tok, Ending, done, refused, Lexing, records, put, read_for, read_of, lex_all}
-use Rattle.quanta_lexer.specs.Tokenizing.{reading, Written, tokenizing, token_words}
+use Rattle.quanta_lexer.specs.Refusals.{bad_table, table_limit}
+use Rattle.quanta_lexer.specs.Tokenizing.{reading, or_else, Written, tokenizing, token_words}
 use Rattle.quanta_lexer.proofs.TokensLaws.{length_put}
 use Rattle.quanta_lexer.specs.declared.lexer.Answer.TheVariants.{Accepted, Refused, Short}
 use Rattle.quanta_lexer.specs.declared.lexer.Read.{Read}
@@ -97,6 +98,17 @@ written l before after r e w = rw e (at l.ending)
 pub unwritten :
     (ts : List Tok) (before after : List ℕ) {r : Read} {k a b : ℕ} → r ≡ Stopped k a b → Written ts before after r
 unwritten ts before after e = rw e tt
+
+pub stopped_unwritten : (ts : List Tok) (before after : List ℕ) (k a b : ℕ) → Written ts before after (Stopped k a b)
+stopped_unwritten ts before after k a b = tt
+
+-- a table that is too long is refused before anything else
+pub long_table :
+    (ed : Edition) (s t : List ℕ) →
+    table_limit < length t →
+    reading ed s t ≡ Stopped bad_table table_limit table_limit
+unfolding reading or_else
+long_table ed s t h = rw (lt-ltb _ _ h)
 
 three : (n : ℕ) → 3 * suc n ≡ suc (suc (suc (3 * n)))
 three n = omega arith

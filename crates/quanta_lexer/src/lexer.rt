@@ -163,6 +163,7 @@ fn run_by_size(edition: Edition, src: &[u8], words: &[u8], tokens: &mut [u32]) -
 }
 
 // The refusals 1 to 10 and 28 in order of test, or the tokens.
+#[tactic(auto, using(crate::proofs::TokenizingLaws::long_table, crate::proofs::TokenizingLaws::stopped_unwritten))]
 fn read_source(edition: Edition, src: &[u8], words: &[u8], tokens: &mut [u32]) -> Read
     ensures { (result ≡ reading edition src.now words.now)
         × Written (lex_all edition src.now words.now).toks

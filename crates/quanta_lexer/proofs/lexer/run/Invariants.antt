@@ -1,0 +1,13 @@
+-- `quanta_lexer::lexer::run` meets its contract. The loop's invariant is `Going`: what is read so far, and what is read
+-- from i on, make up the whole reading.
+-- Assumes nothing.
+use Prim.Native.Nat.{◌-◌}
+use lib.ListN.{length}
+use Rattle.quanta_lexer.proofs.TokensLaws.{Going}
+use Rattle.quanta_lexer.proofs.lexer.run.Given as goal
+
+abbrev pub invariant-loop-tokens : goal.invariant-loop-tokens
+invariant-loop-tokens l = Going l.edition l.src l.words l.initial.tokens l.tokens l.n l.i
+
+abbrev pub decreases-loop-tokens : goal.decreases-loop-tokens
+decreases-loop-tokens l = length l.src - l.i

@@ -1,0 +1,30 @@
+-- `quanta_lexer::lexer::tokenize` meets its contract: what `read_source` answers, and 11 where there is too little room.
+-- Assumes nothing.
+use mathlib.Core.Path.{◌≡◌, ◌∙◌}
+use lib.ListN.{length}
+use native.Mathlib.Omega.{arith}
+use Rattle.quanta_lexer.proofs.TokenizingLaws.{is_refused, is_short, is_accepted}
+use Rattle.quanta_lexer.proofs.TokenizingLaws.{words_refused, words_short, words_accepted}
+use Rattle.quanta_lexer.proofs.lexer.tokenize.Goals as goal
+
+pub returns-then-tokens-n : goal.returns-then-tokens-n
+returns-then-tokens-n c =
+    let w = length c.args.tokens.now in
+    let room : length c.read_source.new.tokens ≡ w = omega arith in
+    let a = is_short _ _ _ w _ c.read_source.ensures.0 _ c.in-Tokens.is (omega arith) in
+    (a, c.clear-then-tokens-n.ensures ∙ words_short _ _ _ w _ room a)
+
+pub returns-in-Stopped : goal.returns-in-Stopped
+returns-in-Stopped c =
+    let w = length c.args.tokens.now in
+    let room : length c.read_source.new.tokens ≡ w = omega arith in
+    let a = is_refused _ _ _ w _ c.read_source.ensures.0 _ _ _ c.in-Stopped.is in
+    (a, c.clear.ensures ∙ words_refused _ _ _ w _ _ _ room a)
+
+pub returns-else-tokens-n : goal.returns-else-tokens-n
+returns-else-tokens-n c =
+    let w = length c.args.tokens.now in
+    let room : length c.read_source.new.tokens ≡ w = omega arith in
+    let written = rw c.in-Tokens.is at c.read_source.ensures.1 in
+    let a = is_accepted _ _ _ w _ c.read_source.ensures.0 _ c.in-Tokens.is (omega arith) in
+    (a, words_accepted _ _ _ w _ _ _ _ room (omega arith) written c.clear-in-Tokens.ensures a)
