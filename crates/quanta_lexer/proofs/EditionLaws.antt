@@ -160,7 +160,7 @@ turn s one two ih i _ _ (alike (Token k a e) d) = ⊎_elim same later (ih e.0)
           behind = f.behind;
           stands = ap (λ (ts : List Tok). tok k a.0 e.0 ∷ ts) f.stands;
           days = (d, f.days);
-          no_day_lem = f.no_day_lem;
+          is_no_day = f.is_no_day;
           stops = ap (after (tok k a.0 e.0)) f.stops;
         })
 turn s one two ih i _ _ (alike End d) = inl (((λ h. absurd (omega arith)), tt), refl)
@@ -174,7 +174,7 @@ turn s one two ih i _ _ (apart h) =
       behind = (one (i + 11)).toks;
       stands = refl;
       days = tt;
-      no_day_lem = h;
+      is_no_day = h;
       stops = refl;
     })
 
@@ -208,7 +208,7 @@ same_if_days s t h = ⊎_elim (λ p. p.1) (λ f. absurd (never f)) (lex_both s t
     never : FirstNoDay s (lex_all One s t) (lex_all Two s t) → ⊥
     never f =
         let d = day_among s f.before (tok (code Date) f.start f.stop) f.behind (rw f.stands at h) refl in
-        clash d f.no_day_lem refl
+        clash d f.is_no_day refl
 
 -- a Date that is no day
 abbrev NoDay : List ℕ → Tok → Type 0
@@ -255,7 +255,7 @@ stops_there s t b a e c h d n = ⊎_elim (λ p. absurd (never p.0)) at (lex_both
         let x = tok (code Date) f.start f.stop in
         let y = tok (code Date) a e in
         let e = sym f.stands ∙ h in
-        let q = one_first s f.before b x y f.behind c e f.days d (refl, f.no_day_lem) (refl, n) in
+        let q = one_first s f.before b x y f.behind c e f.days d (refl, f.is_no_day) (refl, n) in
         let stopped : List Tok → Tok → Lexing =
         λ ts k. record { toks = ts; ending = refused no_day k.start k.stop } in
         f.stops ∙ ap₂ stopped q.0 q.1

@@ -18,5 +18,5 @@ pub record FirstNoDay (s : List ℕ) (one two : Lexing) : Type 0 where
   pub behind : List Tok
   pub stands : one.toks ≡ before ++ (tok (code Date) start stop ∷ behind)
   pub days : AllDays s before
-  pub no_day_lem : day_at s (start + 1) ≡ false
+  pub is_no_day : day_at s (start + 1) ≡ false
   pub stops : two ≡ record { toks = before; ending = refused no_day start stop }
