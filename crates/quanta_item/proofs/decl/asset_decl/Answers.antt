@@ -1,0 +1,22 @@
+-- `quanta_item::decl::asset_decl` meets its contract.
+-- Assumes nothing.
+use mathlib.Core.Path.{refl}
+use Rattle.quanta_grammar.specs.NodeKind.{node_code, asset_node}
+use Rattle.quanta_cursor.proofs.Places.{ready_small}
+use Rattle.quanta_cursor.proofs.Meeting.{failed}
+use Rattle.quanta_cursor.proofs.Under.{closes_as}
+use Rattle.quanta_item.proofs.Items.{asset_key, unnamed, named, semi_shut}
+use Rattle.quanta_grammar.specs.Refine.{blank}
+use Rattle.quanta_item.proofs.decl.asset_decl.Goals as goal
+
+pub expect_ident-requires : goal.expect_ident-requires
+expect_ident-requires c = (asset_key blank c.args.tokens.now 0 c.requires.0 c.bump.ensures c.args.tree.now c.requires.1).ready
+
+pub close_semi-requires : goal.close_semi-requires
+close_semi-requires c = ((named (asset_key blank c.args.tokens.now 0 c.requires.0 c.bump.ensures c.args.tree.now c.requires.1) c.expect_ident.ensures c.in-Node.is).ready, ready_small c.requires.0)
+
+pub returns-in-Refused : goal.returns-in-Refused
+returns-in-Refused c = λ src a. failed (unnamed (asset_key src c.args.tokens.now a c.requires.0 c.bump.ensures c.args.tree.now c.requires.1) c.expect_ident.ensures c.in-Refused.is)
+
+pub returns-in-Node : goal.returns-in-Node
+returns-in-Node c = λ src a. semi_shut (node_code asset_node) refl (named (asset_key src c.args.tokens.now a c.requires.0 c.bump.ensures c.args.tree.now c.requires.1) c.expect_ident.ensures c.in-Node.is) refl (closes_as c.peek_span-span.ensures c.close_semi.ensures)

@@ -1,0 +1,36 @@
+-- `quanta_item::decl::event_decl` meets its contract.
+-- Assumes nothing.
+use Rattle.quanta_grammar.specs.Refine.{text}
+use mathlib.Core.Path.{refl}
+use native.Mathlib.Omega.{arith}
+use Rattle.quanta_grammar.specs.NodeKind.{node_code, event_node}
+use Rattle.quanta_grammar.specs.Productions.{param_list}
+use Rattle.quanta_cursor.proofs.Places.{ready_small}
+use Rattle.quanta_cursor.proofs.Meeting.{failed, all_of}
+use Rattle.quanta_cursor.proofs.Under.{closes_as}
+use Rattle.quanta_item.proofs.Items.{event_key, unnamed, named, name_few, unlisted, listed_in, listed_count, two_small, semi_shut}
+use Rattle.quanta_item.proofs.decl.event_decl.Goals as goal
+
+pub expect_ident-requires : goal.expect_ident-requires
+expect_ident-requires c = (event_key (text c.args.edition c.args.src.now) c.args.tokens.now c.args.allowance c.requires.0 c.bump.ensures c.args.tree.now c.requires.1).ready
+
+pub param_list-requires : goal.param_list-requires
+param_list-requires c = (named (event_key (text c.args.edition c.args.src.now) c.args.tokens.now c.args.allowance c.requires.0 c.bump.ensures c.args.tree.now c.requires.1) c.expect_ident.ensures c.in-Node.is).ready
+
+pub peek_span-span-requires : goal.peek_span-span-requires
+peek_span-span-requires c = c.requires.0.inside
+
+pub overflow_add-children : goal.overflow_add-children
+overflow_add-children c = omega (arith, two_small (name_few (event_key (text c.args.edition c.args.src.now) c.args.tokens.now c.args.allowance c.requires.0 c.bump.ensures c.args.tree.now c.requires.1) c.expect_ident.ensures c.in-Node.is) (all_of c.in-Nodes.is c.param_list.ensures) (listed_in param_list tt (named (event_key (text c.args.edition c.args.src.now) c.args.tokens.now c.args.allowance c.requires.0 c.bump.ensures c.args.tree.now c.requires.1) c.expect_ident.ensures c.in-Node.is) c.param_list.ensures c.in-Nodes.is).ready)
+
+pub close_semi-requires : goal.close_semi-requires
+close_semi-requires c = ((listed_in param_list tt (named (event_key (text c.args.edition c.args.src.now) c.args.tokens.now c.args.allowance c.requires.0 c.bump.ensures c.args.tree.now c.requires.1) c.expect_ident.ensures c.in-Node.is) c.param_list.ensures c.in-Nodes.is).ready, ready_small c.requires.0)
+
+pub returns-in-Refused : goal.returns-in-Refused
+returns-in-Refused c = failed (unnamed (event_key (text c.args.edition c.args.src.now) c.args.tokens.now c.args.allowance c.requires.0 c.bump.ensures c.args.tree.now c.requires.1) c.expect_ident.ensures c.in-Refused.is)
+
+pub returns-in-Refused-param_list : goal.returns-in-Refused-param_list
+returns-in-Refused-param_list c = failed (unlisted param_list tt (named (event_key (text c.args.edition c.args.src.now) c.args.tokens.now c.args.allowance c.requires.0 c.bump.ensures c.args.tree.now c.requires.1) c.expect_ident.ensures c.in-Node.is) c.param_list.ensures c.in-Refused-param_list.is)
+
+pub returns-in-Nodes : goal.returns-in-Nodes
+returns-in-Nodes c = semi_shut (node_code event_node) refl (listed_in param_list tt (named (event_key (text c.args.edition c.args.src.now) c.args.tokens.now c.args.allowance c.requires.0 c.bump.ensures c.args.tree.now c.requires.1) c.expect_ident.ensures c.in-Node.is) c.param_list.ensures c.in-Nodes.is) (listed_count param_list tt (named (event_key (text c.args.edition c.args.src.now) c.args.tokens.now c.args.allowance c.requires.0 c.bump.ensures c.args.tree.now c.requires.1) c.expect_ident.ensures c.in-Node.is) c.param_list.ensures c.in-Nodes.is) (closes_as c.peek_span-span.ensures c.close_semi.ensures)
