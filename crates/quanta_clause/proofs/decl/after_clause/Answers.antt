@@ -8,7 +8,6 @@ use Rattle.quanta_grammar.specs.Refine.{text}
 use Rattle.quanta_cursor.proofs.Places.{took_ready, ready_small}
 use Rattle.quanta_cursor.proofs.Meeting.{took, failed, took_of, failed_of}
 use Rattle.quanta_clause.proofs.Clauses.{target_of_lem, untargeted, after_past, after_bad, target_ready, target_few, after_plain, from_past, from_bad, from_took}
-use borrow.Author.Rules.{rules}
 use Rattle.quanta_clause.proofs.decl.after_clause.Goals as goal
 
 pub after_target-requires : goal.after_target-requires

@@ -6,7 +6,6 @@ use Rattle.quanta_token.specs.declared.edition.Edition.TheVariants.{One}
 use Rattle.quanta_grammar.specs.Refine.{text}
 use Rattle.quanta_cursor.proofs.Meeting.{took_of, failed_of}
 use Rattle.quanta_clause.proofs.Clauses.{target_is, target_true, unit_ready, duration_target, value_took}
-use borrow.Author.Rules.{rules}
 use Rattle.quanta_clause.proofs.decl.after_target.Goals as goal
 
 pub leaf-unit-requires : goal.leaf-unit-requires

@@ -29,6 +29,16 @@ returns-in-32 c = ap clause_kind (sym c.in-32.is)
 
 pub returns-in_default : goal.returns-in_default
 returns-in_default c =
-    sym (kind_none clause_kinds c.args.keyword
-    ((λ z. omega arith), ((λ z. omega arith), ((λ z. omega arith), ((λ z. omega arith),
-    ((λ z. omega arith), ((λ z. omega arith), ((λ z. omega arith), tt))))))))
+    sym (kind_none clause_kinds c.args.keyword (
+      (λ z. omega arith),
+      (
+        (λ z. omega arith),
+        (
+          (λ z. omega arith),
+          (
+            (λ z. omega arith),
+            ((λ z. omega arith), ((λ z. omega arith), ((λ z. omega arith), tt))),
+          ),
+        ),
+      ),
+    ))

@@ -1,17 +1,13 @@
-use mathlib.Core.Path.{◌≡◌, refl, sym, ◌∙◌}
-use Prim.Native.Nat.{ℕ, ◌-◌}
+use mathlib.Core.Path.{refl, sym, ◌∙◌}
 use native.Mathlib.Omega.{arith}
 use Rattle.grammar.specs.Records.{fresh}
-use Rattle.quanta_token.specs.declared.edition.Edition.{Edition}
 use Rattle.quanta_token.specs.declared.edition.Edition.TheVariants.{One}
-use Rattle.quanta_grammar.specs.Productions.{clauses, more_names}
 use Rattle.quanta_grammar.specs.Refine.{text}
-use Rattle.quanta_cursor.specs.Tokens.{size, tok_at}
+use Rattle.quanta_cursor.specs.Tokens.{tok_at}
 use Rattle.quanta_cursor.proofs.Places.{ready_small}
 use Rattle.quanta_cursor.proofs.Meeting.{failed, took_of, failed_of, took_all, failed_all}
 use Rattle.quanta_cursor.proofs.Lists.{clauses_run}
-use Rattle.quanta_cursor.proofs.Lists.{Rolling as Names}
-use Rattle.quanta_cursor.proofs.Listing.{Rolling, run_begun, runs_bad, runs_on, runs_less}
+use Rattle.quanta_cursor.proofs.Listing.{run_begun, runs_bad, runs_on, runs_less}
 use Rattle.quanta_cursor.proofs.WordLists.{names_law, list_begun, list_ends, comma_past, list_bad, list_on, list_less}
 use Rattle.quanta_clause.proofs.Clauses.{names_past, behind, names_none, inside_ready, inside_word, names_bad, names_met}
 use Rattle.quanta_clause.proofs.Turns.{is_name, is_names, is_expr, names_start, name_start, expr_start, after_start, no_start, Turn, turned, clauses_end}
@@ -41,10 +37,13 @@ first_name-requires c =
 
 pub names-init : goal.names-init
 names-init c =
+    let ws = c.args.tokens.now in
+    let a = c.args.allowance in
+    let src = text One c.args.src.now in
     let g = (c.clauses.invariant One).ready in
     let w = is_names c.peek.ensures (omega arith) (omega arith) in
-    let r = inside_ready (text One c.args.src.now) c.args.tokens.now c.args.allowance g w c.bump.ensures c.first_name.ensures c.in-Node.is in
-    let m = inside_word (text One c.args.src.now) c.args.tokens.now c.args.allowance g w c.bump.ensures c.first_name.ensures c.in-Node.is in
+    let r = inside_ready src ws a g w c.bump.ensures c.first_name.ensures c.in-Node.is in
+    let m = inside_word src ws a g w c.bump.ensures c.first_name.ensures c.in-Node.is in
     list_begun names_law r m refl
 
 pub peek-requires-in-names : goal.peek-requires-in-names
@@ -55,10 +54,13 @@ bump-requires-in-names c = ready_small (c.names.invariant 0).ready
 
 pub expect_ident-requires : goal.expect_ident-requires
 expect_ident-requires c =
+    let ws = c.args.tokens.now in
+    let a = c.args.allowance in
+    let src = text One c.args.src.now in
     let g = (c.clauses.invariant One).ready in
     let w = is_names c.peek.ensures (omega arith) (omega arith) in
-    let r = inside_ready (text One c.args.src.now) c.args.tokens.now c.args.allowance g w c.bump.ensures c.first_name.ensures c.in-Node.is in
-    let m = inside_word (text One c.args.src.now) c.args.tokens.now c.args.allowance g w c.bump.ensures c.first_name.ensures c.in-Node.is in
+    let r = inside_ready src ws a g w c.bump.ensures c.first_name.ensures c.in-Node.is in
+    let m = inside_word src ws a g w c.bump.ensures c.first_name.ensures c.in-Node.is in
     let comma = sym c.peek-in-names.ensures ∙ c.if-peek-ne-COMMA.false in
     comma_past names_law r m refl c.names.invariant comma c.bump-in-names.ensures
 
@@ -73,29 +75,42 @@ returns-in-Refused-expect_ident c = λ e.
     let m = inside_word src ws a g w c.bump.ensures c.first_name.ensures c.in-Node.is in
     let comma = sym c.peek-in-names.ensures ∙ c.if-peek-ne-COMMA.false in
     let b = behind src ws a g w c.bump.ensures in
-    let bad = list_bad names_law r m refl c.names.invariant comma c.bump-in-names.ensures c.expect_ident.ensures c.in-Refused-expect_ident.is src (tok_at src ws c.clauses.at.0) a b in
-    failed_all (runs_bad clauses_run a c.requires (c.clauses.invariant e) (names_start src ws c.clauses.at.0 w) fresh (names_bad src ws a g w c.bump.ensures c.first_name.ensures c.in-Node.is bad))
+    let bad = list_bad names_law r m refl c.names.invariant comma c.bump-in-names.ensures c.expect_ident.ensures
+    c.in-Refused-expect_ident.is src (tok_at src ws c.clauses.at.0) a b in
+    let none = names_bad src ws a g w c.bump.ensures c.first_name.ensures c.in-Node.is bad in
+    failed_all (runs_bad clauses_run a c.requires (c.clauses.invariant e) (names_start src ws c.clauses.at.0 w) fresh none)
 
 pub overflow_add-names : goal.overflow_add-names
-overflow_add-names c = omega (arith, (c.names.invariant 0).few, (c.names.invariant 0).ready.inside, (c.names.invariant 0).ready.fits, c.requires.closed.few)
+overflow_add-names c =
+    let v = c.names.invariant 0 in
+    omega (arith, v.few, v.ready.inside, v.ready.fits, c.requires.closed.few)
 
 pub names-smaller : goal.names-smaller
 names-smaller c =
+    let ws = c.args.tokens.now in
+    let a = c.args.allowance in
+    let src = text One c.args.src.now in
     let g = (c.clauses.invariant One).ready in
     let w = is_names c.peek.ensures (omega arith) (omega arith) in
-    let r = inside_ready (text One c.args.src.now) c.args.tokens.now c.args.allowance g w c.bump.ensures c.first_name.ensures c.in-Node.is in
-    let m = inside_word (text One c.args.src.now) c.args.tokens.now c.args.allowance g w c.bump.ensures c.first_name.ensures c.in-Node.is in
+    let r = inside_ready src ws a g w c.bump.ensures c.first_name.ensures c.in-Node.is in
+    let m = inside_word src ws a g w c.bump.ensures c.first_name.ensures c.in-Node.is in
     let comma = sym c.peek-in-names.ensures ∙ c.if-peek-ne-COMMA.false in
-    omega (arith, (c.names.invariant 0).ready.inside, list_less names_law r m refl c.names.invariant comma c.bump-in-names.ensures c.expect_ident.ensures c.in-Node-expect_ident.is)
+    let less = list_less names_law r m refl c.names.invariant comma c.bump-in-names.ensures c.expect_ident.ensures
+    c.in-Node-expect_ident.is in
+    omega (arith, (c.names.invariant 0).ready.inside, less)
 
 pub names-preserved : goal.names-preserved
 names-preserved c =
+    let ws = c.args.tokens.now in
+    let a = c.args.allowance in
+    let src = text One c.args.src.now in
     let g = (c.clauses.invariant One).ready in
     let w = is_names c.peek.ensures (omega arith) (omega arith) in
-    let r = inside_ready (text One c.args.src.now) c.args.tokens.now c.args.allowance g w c.bump.ensures c.first_name.ensures c.in-Node.is in
-    let m = inside_word (text One c.args.src.now) c.args.tokens.now c.args.allowance g w c.bump.ensures c.first_name.ensures c.in-Node.is in
+    let r = inside_ready src ws a g w c.bump.ensures c.first_name.ensures c.in-Node.is in
+    let m = inside_word src ws a g w c.bump.ensures c.first_name.ensures c.in-Node.is in
     let comma = sym c.peek-in-names.ensures ∙ c.if-peek-ne-COMMA.false in
-    list_on names_law r m refl c.names.invariant comma c.bump-in-names.ensures c.expect_ident.ensures c.in-Node-expect_ident.is refl c.expect_ident.auto.tree
+    list_on names_law r m refl c.names.invariant comma c.bump-in-names.ensures c.expect_ident.ensures
+    c.in-Node-expect_ident.is refl c.expect_ident.auto.tree
 
 pub close_names-requires : goal.close_names-requires
 close_names-requires c = ((c.names.invariant 0).ready, (c.clauses.invariant One).ready.inside)
@@ -112,24 +127,38 @@ returns-in-Refused-clause c = λ e.
     let v = c.peek.ensures in
     let g = (c.clauses.invariant One).ready in
     let turn : Turn src ws a i c.clauses.no.0 c.clauses.tree c.match-peek.clause c.match-peek.tree =
-      elim c.match-peek.branch [
-        | in-24 w ↦ turned (after_start src ws i (sym v ∙ w.in-24.is)) w.clause-is w.tree-is (w.after_clause-clause.ensures e) w.after_clause-clause.auto.tree
-        | in-28 w ↦ turned (name_start src ws i (is_name v (omega arith) (omega arith))) w.clause-is w.tree-is (w.name_clause-clause.ensures src a) w.name_clause-clause.auto.tree
-        | in-29+in-Refused w ↦
-            let k = is_names v (omega arith) (omega arith) in
-            turned (names_start src ws i k) w.clause-is w.tree-is (failed (names_none src ws a g k w.bump.ensures w.first_name.ensures w.in-Refused.is)) w.first_name.auto.tree
-        | in-29+in-Node+then-peek-ne-COMMA w ↦
-            let k = is_names v (omega arith) (omega arith) in
-            let r = inside_ready src ws a g k w.bump.ensures w.first_name.ensures w.in-Node.is in
-            let m = inside_word src ws a g k w.bump.ensures w.first_name.ensures w.in-Node.is in
-            let list = list_ends names_law r m refl w.names.invariant (λ z. w.if-peek-ne-COMMA.true (w.peek-in-names.ensures ∙ z)) refl refl refl src (tok_at src ws i) a (behind src ws a g k w.bump.ensures) in
-            turned (names_start src ws i k) w.clause-is w.tree-is (names_met src ws a g k w.bump.ensures w.first_name.ensures w.in-Node.is list w.close_names.ensures) (w.close_names.auto.tree ∙ (w.names.invariant 0).long ∙ w.first_name.auto.tree)
-        | in-31 w ↦ turned (expr_start src ws i (is_expr v (omega arith) (omega arith))) w.clause-is w.tree-is (w.expr_clause-clause.ensures src) w.expr_clause-clause.auto.tree
-      ] in
-    failed_all (runs_bad clauses_run a c.requires (c.clauses.invariant e) turn.goes fresh (failed_of c.in-Refused-clause.is turn.met))
+    elim c.match-peek.branch [
+      | in-24 w ↦
+          turned (after_start src ws i (sym v ∙ w.in-24.is)) w.clause-is w.tree-is
+          (w.after_clause-clause.ensures e) w.after_clause-clause.auto.tree
+      | in-28 w ↦
+          turned (name_start src ws i (is_name v (omega arith) (omega arith))) w.clause-is w.tree-is
+          (w.name_clause-clause.ensures src a) w.name_clause-clause.auto.tree
+      | in-29+in-Refused w ↦
+          let k = is_names v (omega arith) (omega arith) in
+          let bad = names_none src ws a g k w.bump.ensures w.first_name.ensures w.in-Refused.is in
+          turned (names_start src ws i k) w.clause-is w.tree-is (failed bad) w.first_name.auto.tree
+      | in-29+in-Node+then-peek-ne-COMMA w ↦
+          let k = is_names v (omega arith) (omega arith) in
+          let r = inside_ready src ws a g k w.bump.ensures w.first_name.ensures w.in-Node.is in
+          let m = inside_word src ws a g k w.bump.ensures w.first_name.ensures w.in-Node.is in
+          let b = behind src ws a g k w.bump.ensures in
+          let list = list_ends names_law r m refl w.names.invariant
+          (λ z. w.if-peek-ne-COMMA.true (w.peek-in-names.ensures ∙ z)) refl refl refl src (tok_at src ws i) a b in
+          let met = names_met src ws a g k w.bump.ensures w.first_name.ensures w.in-Node.is list w.close_names.ensures in
+          let long = w.close_names.auto.tree ∙ (w.names.invariant 0).long ∙ w.first_name.auto.tree in
+          turned (names_start src ws i k) w.clause-is w.tree-is met long
+      | in-31 w ↦
+          turned (expr_start src ws i (is_expr v (omega arith) (omega arith))) w.clause-is w.tree-is
+          (w.expr_clause-clause.ensures src) w.expr_clause-clause.auto.tree
+    ] in
+    let none = failed_of c.in-Refused-clause.is turn.met in
+    failed_all (runs_bad clauses_run a c.requires (c.clauses.invariant e) turn.goes fresh none)
 
 pub overflow_add-count : goal.overflow_add-count
-overflow_add-count c = omega (arith, (c.clauses.invariant One).few, (c.clauses.invariant One).ready.inside, (c.clauses.invariant One).ready.fits, c.requires.closed.few)
+overflow_add-count c =
+    let v = c.clauses.invariant One in
+    omega (arith, v.few, v.ready.inside, v.ready.fits, c.requires.closed.few)
 
 pub clauses-smaller : goal.clauses-smaller
 clauses-smaller c =
@@ -140,21 +169,33 @@ clauses-smaller c =
     let v = c.peek.ensures in
     let g = (c.clauses.invariant One).ready in
     let turn : Turn src ws a i c.clauses.no.0 c.clauses.tree c.match-peek.clause c.match-peek.tree =
-      elim c.match-peek.branch [
-        | in-24 w ↦ turned (after_start src ws i (sym v ∙ w.in-24.is)) w.clause-is w.tree-is (w.after_clause-clause.ensures One) w.after_clause-clause.auto.tree
-        | in-28 w ↦ turned (name_start src ws i (is_name v (omega arith) (omega arith))) w.clause-is w.tree-is (w.name_clause-clause.ensures src a) w.name_clause-clause.auto.tree
-        | in-29+in-Refused w ↦
-            let k = is_names v (omega arith) (omega arith) in
-            turned (names_start src ws i k) w.clause-is w.tree-is (failed (names_none src ws a g k w.bump.ensures w.first_name.ensures w.in-Refused.is)) w.first_name.auto.tree
-        | in-29+in-Node+then-peek-ne-COMMA w ↦
-            let k = is_names v (omega arith) (omega arith) in
-            let r = inside_ready src ws a g k w.bump.ensures w.first_name.ensures w.in-Node.is in
-            let m = inside_word src ws a g k w.bump.ensures w.first_name.ensures w.in-Node.is in
-            let list = list_ends names_law r m refl w.names.invariant (λ z. w.if-peek-ne-COMMA.true (w.peek-in-names.ensures ∙ z)) refl refl refl src (tok_at src ws i) a (behind src ws a g k w.bump.ensures) in
-            turned (names_start src ws i k) w.clause-is w.tree-is (names_met src ws a g k w.bump.ensures w.first_name.ensures w.in-Node.is list w.close_names.ensures) (w.close_names.auto.tree ∙ (w.names.invariant 0).long ∙ w.first_name.auto.tree)
-        | in-31 w ↦ turned (expr_start src ws i (is_expr v (omega arith) (omega arith))) w.clause-is w.tree-is (w.expr_clause-clause.ensures src) w.expr_clause-clause.auto.tree
-      ] in
-    omega (arith, g.inside, runs_less clauses_run a c.requires (c.clauses.invariant One) turn.goes (took_of c.in-Node-clause.is turn.met))
+    elim c.match-peek.branch [
+      | in-24 w ↦
+          turned (after_start src ws i (sym v ∙ w.in-24.is)) w.clause-is w.tree-is
+          (w.after_clause-clause.ensures One) w.after_clause-clause.auto.tree
+      | in-28 w ↦
+          turned (name_start src ws i (is_name v (omega arith) (omega arith))) w.clause-is w.tree-is
+          (w.name_clause-clause.ensures src a) w.name_clause-clause.auto.tree
+      | in-29+in-Refused w ↦
+          let k = is_names v (omega arith) (omega arith) in
+          let bad = names_none src ws a g k w.bump.ensures w.first_name.ensures w.in-Refused.is in
+          turned (names_start src ws i k) w.clause-is w.tree-is (failed bad) w.first_name.auto.tree
+      | in-29+in-Node+then-peek-ne-COMMA w ↦
+          let k = is_names v (omega arith) (omega arith) in
+          let r = inside_ready src ws a g k w.bump.ensures w.first_name.ensures w.in-Node.is in
+          let m = inside_word src ws a g k w.bump.ensures w.first_name.ensures w.in-Node.is in
+          let b = behind src ws a g k w.bump.ensures in
+          let list = list_ends names_law r m refl w.names.invariant
+          (λ z. w.if-peek-ne-COMMA.true (w.peek-in-names.ensures ∙ z)) refl refl refl src (tok_at src ws i) a b in
+          let met = names_met src ws a g k w.bump.ensures w.first_name.ensures w.in-Node.is list w.close_names.ensures in
+          let long = w.close_names.auto.tree ∙ (w.names.invariant 0).long ∙ w.first_name.auto.tree in
+          turned (names_start src ws i k) w.clause-is w.tree-is met long
+      | in-31 w ↦
+          turned (expr_start src ws i (is_expr v (omega arith) (omega arith))) w.clause-is w.tree-is
+          (w.expr_clause-clause.ensures src) w.expr_clause-clause.auto.tree
+    ] in
+    let took = took_of c.in-Node-clause.is turn.met in
+    omega (arith, g.inside, runs_less clauses_run a c.requires (c.clauses.invariant One) turn.goes took)
 
 pub clauses-preserved : goal.clauses-preserved
 clauses-preserved c = λ e.
@@ -165,30 +206,46 @@ clauses-preserved c = λ e.
     let v = c.peek.ensures in
     let g = (c.clauses.invariant One).ready in
     let turn : Turn src ws a i c.clauses.no.0 c.clauses.tree c.match-peek.clause c.match-peek.tree =
-      elim c.match-peek.branch [
-        | in-24 w ↦ turned (after_start src ws i (sym v ∙ w.in-24.is)) w.clause-is w.tree-is (w.after_clause-clause.ensures e) w.after_clause-clause.auto.tree
-        | in-28 w ↦ turned (name_start src ws i (is_name v (omega arith) (omega arith))) w.clause-is w.tree-is (w.name_clause-clause.ensures src a) w.name_clause-clause.auto.tree
-        | in-29+in-Refused w ↦
-            let k = is_names v (omega arith) (omega arith) in
-            turned (names_start src ws i k) w.clause-is w.tree-is (failed (names_none src ws a g k w.bump.ensures w.first_name.ensures w.in-Refused.is)) w.first_name.auto.tree
-        | in-29+in-Node+then-peek-ne-COMMA w ↦
-            let k = is_names v (omega arith) (omega arith) in
-            let r = inside_ready src ws a g k w.bump.ensures w.first_name.ensures w.in-Node.is in
-            let m = inside_word src ws a g k w.bump.ensures w.first_name.ensures w.in-Node.is in
-            let list = list_ends names_law r m refl w.names.invariant (λ z. w.if-peek-ne-COMMA.true (w.peek-in-names.ensures ∙ z)) refl refl refl src (tok_at src ws i) a (behind src ws a g k w.bump.ensures) in
-            turned (names_start src ws i k) w.clause-is w.tree-is (names_met src ws a g k w.bump.ensures w.first_name.ensures w.in-Node.is list w.close_names.ensures) (w.close_names.auto.tree ∙ (w.names.invariant 0).long ∙ w.first_name.auto.tree)
-        | in-31 w ↦ turned (expr_start src ws i (is_expr v (omega arith) (omega arith))) w.clause-is w.tree-is (w.expr_clause-clause.ensures src) w.expr_clause-clause.auto.tree
-      ] in
-    runs_on clauses_run a c.requires (c.clauses.invariant e) turn.goes (took_of c.in-Node-clause.is turn.met) refl turn.long
+    elim c.match-peek.branch [
+      | in-24 w ↦
+          turned (after_start src ws i (sym v ∙ w.in-24.is)) w.clause-is w.tree-is
+          (w.after_clause-clause.ensures e) w.after_clause-clause.auto.tree
+      | in-28 w ↦
+          turned (name_start src ws i (is_name v (omega arith) (omega arith))) w.clause-is w.tree-is
+          (w.name_clause-clause.ensures src a) w.name_clause-clause.auto.tree
+      | in-29+in-Refused w ↦
+          let k = is_names v (omega arith) (omega arith) in
+          let bad = names_none src ws a g k w.bump.ensures w.first_name.ensures w.in-Refused.is in
+          turned (names_start src ws i k) w.clause-is w.tree-is (failed bad) w.first_name.auto.tree
+      | in-29+in-Node+then-peek-ne-COMMA w ↦
+          let k = is_names v (omega arith) (omega arith) in
+          let r = inside_ready src ws a g k w.bump.ensures w.first_name.ensures w.in-Node.is in
+          let m = inside_word src ws a g k w.bump.ensures w.first_name.ensures w.in-Node.is in
+          let b = behind src ws a g k w.bump.ensures in
+          let list = list_ends names_law r m refl w.names.invariant
+          (λ z. w.if-peek-ne-COMMA.true (w.peek-in-names.ensures ∙ z)) refl refl refl src (tok_at src ws i) a b in
+          let met = names_met src ws a g k w.bump.ensures w.first_name.ensures w.in-Node.is list w.close_names.ensures in
+          let long = w.close_names.auto.tree ∙ (w.names.invariant 0).long ∙ w.first_name.auto.tree in
+          turned (names_start src ws i k) w.clause-is w.tree-is met long
+      | in-31 w ↦
+          turned (expr_start src ws i (is_expr v (omega arith) (omega arith))) w.clause-is w.tree-is
+          (w.expr_clause-clause.ensures src) w.expr_clause-clause.auto.tree
+    ] in
+    let took = took_of c.in-Node-clause.is turn.met in
+    runs_on clauses_run a c.requires (c.clauses.invariant e) turn.goes took refl turn.long
 
 pub returns-in_default : goal.returns-in_default
 returns-in_default c = λ e.
     let i = c.clauses.at.0 in
     let known = (c.requires.closed.known i (c.clauses.invariant One).ready.inside).1 in
-    took_all (clauses_end (c.clauses.invariant e) (no_start (text e c.args.src.now) c.args.tokens.now i c.peek.ensures known (λ z. omega arith) (λ k a b e. omega arith)))
+    let src = text e c.args.src.now in
+    let none = no_start src c.args.tokens.now i c.peek.ensures known (λ z. omega arith) (λ k a b e. omega arith) in
+    took_all (clauses_end (c.clauses.invariant e) none)
 
 pub returns-in_default-2 : goal.returns-in_default-2
 returns-in_default-2 c = λ e.
     let i = c.clauses.at.0 in
     let known = (c.requires.closed.known i (c.clauses.invariant One).ready.inside).1 in
-    took_all (clauses_end (c.clauses.invariant e) (no_start (text e c.args.src.now) c.args.tokens.now i c.peek.ensures known (λ z. omega arith) (λ k a b e. omega arith)))
+    let src = text e c.args.src.now in
+    let none = no_start src c.args.tokens.now i c.peek.ensures known (λ z. omega arith) (λ k a b e. omega arith) in
+    took_all (clauses_end (c.clauses.invariant e) none)

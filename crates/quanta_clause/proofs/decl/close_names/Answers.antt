@@ -4,7 +4,6 @@ use mathlib.Core.Path.{ap, ◌∙◌}
 use Rattle.quanta_clause.specs.Clauses.{clause_kind}
 use Rattle.quanta_cursor.proofs.Under.{closes_as}
 use Rattle.quanta_clause.proofs.Clauses.{closes_kind}
-use borrow.Author.Rules.{rules}
 use Rattle.quanta_clause.proofs.decl.close_names.Goals as goal
 
 pub returns : goal.returns

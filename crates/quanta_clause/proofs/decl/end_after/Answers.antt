@@ -1,7 +1,6 @@
 -- `quanta_clause::decl::end_after` meets its contract.
 -- Assumes nothing.
 use Rattle.quanta_clause.proofs.Clauses.{after_made}
-use borrow.Author.Rules.{rules}
 use Rattle.quanta_clause.proofs.decl.end_after.Goals as goal
 
 pub returns : goal.returns

@@ -3,7 +3,6 @@
 use mathlib.Core.Path.{ap, ◌∙◌}
 use Rattle.quanta_clause.specs.Clauses.{clause_kind}
 use Rattle.quanta_clause.proofs.Clauses.{ends_made}
-use borrow.Author.Rules.{rules}
 use Rattle.quanta_clause.proofs.decl.end_clause.Goals as goal
 
 pub returns : goal.returns

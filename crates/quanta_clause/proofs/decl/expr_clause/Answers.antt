@@ -5,7 +5,6 @@ use Rattle.quanta_grammar.specs.Refine.{blank}
 use Rattle.quanta_cursor.proofs.Places.{took_ready}
 use Rattle.quanta_cursor.proofs.Meeting.{took, failed, took_of, failed_of}
 use Rattle.quanta_clause.proofs.Clauses.{expr_past, expr_bad, expr_took}
-use borrow.Author.Rules.{rules}
 use Rattle.quanta_clause.proofs.decl.expr_clause.Goals as goal
 
 pub expr-requires : goal.expr-requires

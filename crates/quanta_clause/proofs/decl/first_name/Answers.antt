@@ -1,7 +1,6 @@
 -- `quanta_clause::decl::first_name` meets its contract.
 -- Assumes nothing.
 use Rattle.quanta_clause.proofs.Clauses.{first_unopened, first_ready, first_inside}
-use borrow.Author.Rules.{rules}
 use Rattle.quanta_clause.proofs.decl.first_name.Goals as goal
 
 pub expect_ident-requires : goal.expect_ident-requires

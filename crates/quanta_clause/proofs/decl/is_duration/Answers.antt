@@ -6,7 +6,6 @@ use Rattle.quanta_token.specs.TokenKind.{code, Int}
 use Rattle.quanta_grammar.specs.Refine.{text}
 use Rattle.quanta_cursor.proofs.Places.{past_as}
 use Rattle.quanta_clause.proofs.Units.{no_duration, some_duration}
-use borrow.Author.Rules.{rules}
 use Rattle.quanta_clause.proofs.decl.is_duration.Goals as goal
 
 pub returns-then-peek-ne-INT : goal.returns-then-peek-ne-INT

@@ -3,7 +3,6 @@
 use mathlib.Core.Path.{sym, ◌∙◌}
 use Rattle.quanta_grammar.specs.Refine.{text}
 use Rattle.quanta_clause.proofs.Units.{unit_word_lem, not_unit}
-use borrow.Author.Rules.{rules}
 use Rattle.quanta_clause.proofs.decl.is_unit.Goals as goal
 
 pub returns-then-peek-ne-IDENT : goal.returns-then-peek-ne-IDENT

@@ -3,7 +3,6 @@
 use Rattle.quanta_grammar.specs.Refine.{blank}
 use Rattle.quanta_cursor.proofs.Meeting.{took, failed}
 use Rattle.quanta_clause.proofs.Clauses.{name_past, name_bad, name_ready, name_took}
-use borrow.Author.Rules.{rules}
 use Rattle.quanta_clause.proofs.decl.name_clause.Goals as goal
 
 pub expect_ident-requires : goal.expect_ident-requires
