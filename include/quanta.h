@@ -1,8 +1,8 @@
 /*
  * The proved reader of Quanta contracts, by C calling convention.
  *
- * Link target/staticlib/libquanta.a, which `rt staticlib quanta` writes, on x86-64; or, where there is
- * little stack, target/staticlib/libquanta_terminal.a, which `bash tools/terminal` writes: the same names
+ * Link target/staticlib/libquanta.a, which `bash tools/staticlib quanta` writes, on x86-64; or, where there
+ * is little stack, target/staticlib/libquanta_terminal.a, which `bash tools/terminal` writes: the same names
  * and the same answers. An archive needs nothing but memcpy, memset and their like, keeps nothing between
  * calls and allocates nothing, so that any number of threads may call it, each on buffers of its own.
  *

@@ -9,7 +9,7 @@ cd "$(dirname "${BASH_SOURCE[0]}")/../.."
 work=host/target/stack
 mkdir -p "$work"
 cargo build -q --release --offline --manifest-path host/Cargo.toml -p oracle
-[ -f target/staticlib/libquanta.a ] || rt staticlib quanta
+[ -f target/staticlib/libquanta.a ] || bash tools/staticlib quanta
 [ -f target/staticlib/libquanta_terminal.a ] || bash tools/terminal
 for build in quanta quanta_terminal; do
     cc -std=c11 -D_XOPEN_SOURCE=700 -O1 -static -I include host/quanta/tests/c/stack.c "target/staticlib/lib$build.a" -o "$work/$build"

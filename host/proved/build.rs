@@ -1,5 +1,5 @@
 //! Links the proved lexer.
 
 fn main() {
-    archive::link("quanta_lexer_c");
+    archive::link_lexer();
 }

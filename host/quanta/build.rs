@@ -4,6 +4,6 @@ fn main() {
     if std::env::var_os("CARGO_FEATURE_TERMINAL").is_some() {
         archive::link_terminal();
     } else {
-        archive::link("quanta");
+        archive::link_calls();
     }
 }

@@ -15,12 +15,21 @@ struct Made<'a> {
     command: &'a [&'a str],
 }
 
-/// Tells cargo to link the archive of a Rattle crate. Its path is QUANTA_ARCHIVE for the package's own code and tests.
-pub fn link(name: &str) {
+/// Tells cargo to link the desk's archive of the five calls. Its path is QUANTA_ARCHIVE for the package's own code and tests.
+pub fn link_calls() {
     link_made(&Made {
-        name,
-        of: name,
-        command: &["rt", "staticlib", name],
+        name: "quanta",
+        of: "quanta_c",
+        command: &["bash", "tools/staticlib", "quanta"],
+    });
+}
+
+/// Tells cargo to link the archive of the lexer.
+pub fn link_lexer() {
+    link_made(&Made {
+        name: "quanta_lexer_c",
+        of: "quanta_lexer_c",
+        command: &["bash", "tools/staticlib", "quanta_lexer_c"],
     });
 }
 
@@ -28,7 +37,7 @@ pub fn link(name: &str) {
 pub fn link_terminal() {
     link_made(&Made {
         name: "quanta_terminal",
-        of: "quanta",
+        of: "quanta_c",
         command: &["bash", "tools/terminal"],
     });
 }
@@ -70,9 +79,14 @@ fn own_archive(made: &Made) -> Result<PathBuf, String> {
     let archive = root.join(format!("target/staticlib/lib{}.a", made.name));
     let mut newest = SystemTime::UNIX_EPOCH;
     for reached in reached(&root, made.of)? {
-        let folder = root.join("crates").join(reached);
-        println!("cargo::rerun-if-changed={}", folder.display());
-        newest = newest.max(newest_in(&folder)?);
+        // What rt keeps of its own stands beside these.
+        for part in ["src", "specs", "proofs"] {
+            let folder = root.join("crates").join(&reached).join(part);
+            if folder.is_dir() {
+                println!("cargo::rerun-if-changed={}", folder.display());
+                newest = newest.max(newest_in(&folder)?);
+            }
+        }
     }
     // Build scripts run beside each other, rt in a repository only once at a time.
     let lock = root.join("target/archive.lock");
@@ -93,10 +107,12 @@ fn reached(root: &Path, name: &str) -> Result<BTreeSet<String>, String> {
     println!("cargo::rerun-if-changed={}", path.display());
     let listed = fs::read_to_string(&path).map_err(|error| unreadable(&path, &error))?;
     let lines: Vec<_> = listed.lines().filter_map(|l| l.split_once(':')).collect();
+    // A static library has a second word before the colon.
+    let called = |line: &str, name: &str| line.split_whitespace().next() == Some(name);
     let mut reached = BTreeSet::new();
     let mut open = vec![name];
     while let Some(next) = open.pop() {
-        let Some((_, needs)) = lines.iter().find(|(known, _)| known.trim() == next) else {
+        let Some((_, needs)) = lines.iter().find(|(known, _)| called(known, next)) else {
             continue;
         };
         if reached.insert(next.to_string()) {
