@@ -1,0 +1,18 @@
+-- `quanta_parser::program::import_names` meets its contract: what is under way at the start of its loop is under way at each turn.
+-- Assumes nothing.
+use mathlib.Core.Path.{refl, sym, ◌∙◌}
+use Prim.Native.Nat.{ℕ, ◌-◌}
+use native.Mathlib.Omega.{arith}
+use borrow.Author.Rules.{rules}
+use Rattle.quanta_grammar.specs.Productions.{more_imports}
+use Rattle.quanta_cursor.specs.Tokens.{size}
+use Rattle.quanta_cursor.proofs.Places.{ready_small}
+use Rattle.quanta_cursor.proofs.Lists.{Rolling}
+use Rattle.quanta_cursor.proofs.WordLists.{imports_law, first_bad_lem, list_begun, list_ends, comma_past, list_bad, list_on, list_less}
+use Rattle.quanta_parser.proofs.program.import_names.Given as goal
+
+abbrev pub invariant-loop-at : goal.invariant-loop-at
+invariant-loop-at l = (a : ℕ) → Rolling more_imports l.tokens a l.initial.at.0 l.initial.no.0 l.initial.count l.initial.tree l.at.0 l.no.0 l.count l.tree
+
+abbrev pub decreases-loop-at : goal.decreases-loop-at
+decreases-loop-at l = size l.tokens - l.at.0
