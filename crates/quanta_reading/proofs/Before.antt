@@ -16,14 +16,14 @@ use Rattle.quanta_lexer.specs.declared.lexer.Answer.TheVariants as lexer
 use Rattle.quanta_lexer.proofs.PromiseLaws.{in_order}
 use Rattle.quanta_lexer.proofs.Theorems.{accepted}
 use Rattle.quanta_grammar.specs.Productions.{Symbol, grammar, Derivation}
-use Rattle.quanta_grammar.specs.Refine.{Answer as OfTokens, text, kinds, refine, answer}
-use Rattle.quanta_grammar.specs.Before.{refine_before, answer_before}
+use Rattle.quanta_grammar.specs.Refine.{Answer as OfTokens, text, kinds, answer}
+use Rattle.quanta_grammar.specs.Before.{refine_before}
 use Rattle.quanta_grammar.proofs.Theorems.{edition_one_tokens, edition_one_answers}
 use Rattle.quanta_grammar.proofs.Refined.{single_text}
 use Rattle.quanta_reading.specs.declared.answer.Answer.{Answer}
 use Rattle.quanta_reading.specs.Reading.{Reading, parsed, lexed, records_of, tree_words, answering, reading, Conforms}
 use Rattle.quanta_reading.specs.Before.{grammar_before, reading_before, ConformsBefore}
-use Rattle.quanta_reading.specs.Demand3.{Valid, tokens_of, Spelled}
+use Rattle.quanta_reading.specs.Demand3.{Valid, Spelled}
 use Rattle.quanta_reading.proofs.Editions.{in_range}
 
 module _ (s : Symbol) (source table : List ℕ) (tokens tree : ℕ) where

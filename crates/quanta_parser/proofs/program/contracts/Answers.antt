@@ -1,12 +1,8 @@
 use Rattle.quanta_grammar.specs.Refine.{text}
 use mathlib.Core.Path.{refl, sym, ◌∙◌}
-use Prim.Native.Nat.{◌-◌}
 use native.Mathlib.Omega.{arith}
-use borrow.Author.Rules.{rules}
-use Rattle.quanta_grammar.specs.Productions.{contracts}
-use Rattle.quanta_cursor.specs.Tokens.{size}
 use Rattle.quanta_cursor.proofs.Meeting.{took_of, failed_of}
-use Rattle.quanta_parser.proofs.Running.{contracts_law, Rolling, run_begun, run_ends, run_bad, run_on, run_less}
+use Rattle.quanta_parser.proofs.Running.{contracts_law, run_begun, run_ends, run_bad, run_on, run_less}
 use Rattle.quanta_parser.proofs.program.contracts.Goals as goal
 
 pub loop-span-init : goal.loop-span-init

@@ -1,14 +1,10 @@
 -- `quanta_parser::program::contracts` meets its contract: what is under way at the start of its loop is under way at each turn.
 -- Assumes nothing.
 use Rattle.quanta_grammar.specs.Refine.{text}
-use mathlib.Core.Path.{refl, sym, ◌∙◌}
 use Prim.Native.Nat.{◌-◌}
-use native.Mathlib.Omega.{arith}
-use borrow.Author.Rules.{rules}
 use Rattle.quanta_grammar.specs.Productions.{contracts}
 use Rattle.quanta_cursor.specs.Tokens.{size}
-use Rattle.quanta_cursor.proofs.Meeting.{took_of, failed_of}
-use Rattle.quanta_parser.proofs.Running.{contracts_law, Rolling, run_begun, run_ends, run_bad, run_on, run_less}
+use Rattle.quanta_parser.proofs.Running.{Rolling}
 use Rattle.quanta_parser.proofs.program.contracts.Given as goal
 
 abbrev pub invariant-loop-span : goal.invariant-loop-span

@@ -1,11 +1,6 @@
 use mathlib.Core.Path.{refl, sym, ◌∙◌}
-use Prim.Native.Nat.{ℕ, ◌-◌}
 use native.Mathlib.Omega.{arith}
-use borrow.Author.Rules.{rules}
-use Rattle.quanta_grammar.specs.Productions.{more_imports}
-use Rattle.quanta_cursor.specs.Tokens.{size}
 use Rattle.quanta_cursor.proofs.Places.{ready_small}
-use Rattle.quanta_cursor.proofs.Lists.{Rolling}
 use Rattle.quanta_cursor.proofs.WordLists.{imports_law, first_bad_lem, list_begun, list_ends, comma_past, list_bad, list_on, list_less}
 use Rattle.quanta_parser.proofs.program.import_names.Goals as goal
 

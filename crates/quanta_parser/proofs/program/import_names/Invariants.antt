@@ -1,14 +1,9 @@
 -- `quanta_parser::program::import_names` meets its contract: what is under way at the start of its loop is under way at each turn.
 -- Assumes nothing.
-use mathlib.Core.Path.{refl, sym, ◌∙◌}
 use Prim.Native.Nat.{ℕ, ◌-◌}
-use native.Mathlib.Omega.{arith}
-use borrow.Author.Rules.{rules}
 use Rattle.quanta_grammar.specs.Productions.{more_imports}
 use Rattle.quanta_cursor.specs.Tokens.{size}
-use Rattle.quanta_cursor.proofs.Places.{ready_small}
 use Rattle.quanta_cursor.proofs.Lists.{Rolling}
-use Rattle.quanta_cursor.proofs.WordLists.{imports_law, first_bad_lem, list_begun, list_ends, comma_past, list_bad, list_on, list_less}
 use Rattle.quanta_parser.proofs.program.import_names.Given as goal
 
 abbrev pub invariant-loop-at : goal.invariant-loop-at

@@ -1,12 +1,8 @@
 use mathlib.Core.Path.{refl, sym, ◌∙◌}
-use Prim.Native.Nat.{ℕ, ◌-◌}
 use native.Mathlib.Omega.{arith}
-use borrow.Author.Rules.{rules}
-use Rattle.quanta_grammar.specs.Productions.{imports}
-use Rattle.quanta_cursor.specs.Tokens.{size}
 use Rattle.quanta_cursor.proofs.Meeting.{took_of, failed_of}
-use Rattle.quanta_parser.proofs.Running.{imports_law, Rolling, run_begun, run_ends, run_bad, run_on, run_less}
-use Rattle.quanta_grammar.specs.Refine.{blank, Text}
+use Rattle.quanta_parser.proofs.Running.{imports_law, run_begun, run_ends, run_bad, run_on, run_less}
+use Rattle.quanta_grammar.specs.Refine.{blank}
 use Rattle.quanta_parser.proofs.program.imports.Goals as goal
 
 pub loop-span-init : goal.loop-span-init

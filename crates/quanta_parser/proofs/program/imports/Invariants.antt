@@ -1,14 +1,10 @@
 -- `quanta_parser::program::imports` meets its contract: what is under way at the start of its loop is under way at each turn.
 -- Assumes nothing.
-use mathlib.Core.Path.{refl, sym, ◌∙◌}
 use Prim.Native.Nat.{ℕ, ◌-◌}
-use native.Mathlib.Omega.{arith}
-use borrow.Author.Rules.{rules}
 use Rattle.quanta_grammar.specs.Productions.{imports}
 use Rattle.quanta_cursor.specs.Tokens.{size}
-use Rattle.quanta_cursor.proofs.Meeting.{took_of, failed_of}
-use Rattle.quanta_parser.proofs.Running.{imports_law, Rolling, run_begun, run_ends, run_bad, run_on, run_less}
-use Rattle.quanta_grammar.specs.Refine.{blank, Text}
+use Rattle.quanta_parser.proofs.Running.{Rolling}
+use Rattle.quanta_grammar.specs.Refine.{Text}
 use Rattle.quanta_parser.proofs.program.imports.Given as goal
 
 abbrev pub invariant-loop-span : goal.invariant-loop-span

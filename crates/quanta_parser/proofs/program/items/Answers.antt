@@ -1,13 +1,8 @@
-use Rattle.quanta_grammar.specs.Refine.{text}
-use mathlib.Core.Path.{refl, ◌∙◌}
-use Prim.Native.Nat.{◌-◌}
+use mathlib.Core.Path.{refl}
 use native.Mathlib.Omega.{arith}
-use borrow.Author.Rules.{rules}
-use Rattle.quanta_grammar.specs.Productions.{items}
-use Rattle.quanta_cursor.specs.Tokens.{size}
 use Rattle.quanta_cursor.proofs.Meeting.{took_of, failed_of, took_all, failed_all}
 use Rattle.quanta_cursor.proofs.Lists.{items_run}
-use Rattle.quanta_cursor.proofs.Listing.{Rolling, run_begun}
+use Rattle.quanta_cursor.proofs.Listing.{run_begun}
 use Rattle.quanta_cursor.proofs.Braces.{at_brace, at_eof, more_bad, more_on, more_less}
 use Rattle.quanta_parser.proofs.program.items.Goals as goal
 

@@ -1,7 +1,6 @@
 -- `quanta_parser::whole::whole_expr` meets its contract.
 -- Assumes nothing.
 use Rattle.quanta_parser.proofs.Wholes.{expr_call_lem, whole_bad, whole_inside, whole_more, whole_met}
-use borrow.Author.Rules.{rules}
 use Rattle.quanta_grammar.specs.Refine.{blank}
 use Rattle.quanta_parser.proofs.whole.whole_expr.Goals as goal
 

@@ -2,7 +2,6 @@
 -- Assumes nothing.
 use Rattle.quanta_grammar.specs.Refine.{text}
 use Rattle.quanta_parser.proofs.Wholes.{item_call_lem, whole_bad, whole_inside, whole_more, whole_met}
-use borrow.Author.Rules.{rules}
 use Rattle.quanta_parser.proofs.whole.whole_item.Goals as goal
 
 pub contract_item-requires : goal.contract_item-requires

@@ -1,11 +1,9 @@
 -- `quanta_parser::whole::whole_program` meets its contract.
 -- Assumes nothing.
 use Rattle.quanta_grammar.specs.Refine.{text}
-use mathlib.Core.Path.{◌∙◌}
 use native.Mathlib.Omega.{arith}
 use Rattle.quanta_cursor.proofs.Places.{ready_few}
 use Rattle.quanta_parser.proofs.Wholes.{imports_bad, imported_ready, contracts_bad, program_ready, program_few, program_more, program_small, program_met}
-use borrow.Author.Rules.{rules}
 use Rattle.quanta_parser.proofs.whole.whole_program.Goals as goal
 
 pub peek_span-start-requires : goal.peek_span-start-requires

@@ -1,8 +1,7 @@
 -- `quanta_parser::whole::whole_type` meets its contract.
 -- Assumes nothing.
 use mathlib.Core.Path.{refl}
-use borrow.Author.Rules.{rules}
-use Rattle.quanta_grammar.specs.Refine.{Text, text}
+use Rattle.quanta_grammar.specs.Refine.{text}
 use Rattle.quanta_cursor.proofs.Meeting.{took, failed}
 use Rattle.quanta_type.proofs.Types.{typed_of, half_of, untyped_of}
 use Rattle.quanta_parser.proofs.Wholes.{type_call_lem, whole_bad, whole_inside, whole_more, whole_met, type_halved}
