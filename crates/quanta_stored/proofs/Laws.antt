@@ -163,6 +163,9 @@ module _ (v b d : ℕ) (e : d ≡ digit_of b) where
   unfolding grown
   grown_full h g = rw (← e, lt-ltb d 10 h, le-ltb (v * 10 + d) LIMIT g)
 
+-- what tells a number with one digit more
+pub ruleset growing = (grown_none, grown_more, grown_full)
+
 module _ (l : List ℕ) where
   pub number_none : length l ≡ 0 → LIMIT ≡ number_of l
   unfolding number_of
