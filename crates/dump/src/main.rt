@@ -2,21 +2,23 @@
 #![tactic(auto)]
 
 use quanta::export::quanta_parse;
+use quanta_show::input::read_full;
+use quanta_show::{refusal, show};
+use std::io;
 
 const LONGEST: usize = 1024;
 
 const EDITION: u32 = 1;
 
-fn main() {
+fn main(rt: HostRuntime) -> io::Result<()> {
     let mut source = [0u8; 1025];
     let words = [0u8; 0];
     let mut tokens = [0u32; 3075];
     let mut tree = [0u32; 6150];
-    let n = io::read_full(0, &mut source);
-    if n <= LONGEST {
-        let answer = quanta_parse(EDITION, &source[..n], &words, &mut tokens, &mut tree);
-        quanta_show::show(answer, &tree);
-    } else {
-        quanta_show::refusal(2, 1024, 1024, 0, 0, 0);
+    let n = read_full(&rt, &mut source)?;
+    if n > LONGEST {
+        return refusal(&rt, 2, 1024, 1024, 0, 0, 0);
     }
+    let answer = quanta_parse(EDITION, &source[..n], &words, &mut tokens, &mut tree);
+    show(&rt, answer, &tree)
 }

@@ -1,22 +1,13 @@
 -- A test of a token list: what it finds to be closed is, and what it refuses is not.
 -- Assumes nothing.
-use Rattle.std.proofs.Common.{◌≡◌, ℕ, ◌+◌, ◌-◌, ◌*◌, ◌<◌, ◌≤◌, Bool, true, false, eqb, ◌⊎◌, List, length, sym, ap, ◌∙◌, inl, inr, eq-or-lt_of_le, arith, eqb-true}
+use Rattle.std.proofs.Common.{◌≡◌, ℕ, ◌+◌, ◌-◌, ◌*◌, ◌<◌, ◌≤◌, true, false, eqb, ◌⊎◌, List, length, sym, ap, ◌∙◌, inl, inr, eq-or-lt_of_le, arith, eqb-true}
 use borrow.Author.Tests.{eqb-false}
 use Rattle.quanta_token.specs.TokenKind.{code, Eof}
 use Rattle.quanta_cursor.specs.Tokens.{size, kind_at, Closed}
-use Rattle.engines.proofs.Truth.{unlike}
 
 -- the tokens before i are of known kinds, and none is Eof
 abbrev pub Before : List ℕ → ℕ → Type 0
 Before ws i = (k : ℕ) → k < i → (0 < kind_at ws k) × (kind_at ws k < code Eof)
-
--- what a test says of the list ws
-abbrev pub Told : List ℕ → Bool → Type 0
-Told ws r = (r ≡ true → Closed ws) × (r ≡ false → Closed ws → ⊥)
-
--- a test that failed
-pub refused : {ws : List ℕ} → (Closed ws → ⊥) → Told ws false
-refused n = (λ e. absurd (unlike e), λ e. n)
 
 module _ (ws : List ℕ) (i : ℕ) where
   -- what a token before the last cannot be
@@ -57,5 +48,10 @@ module _ (ws : List ℕ) (i : ℕ) where
           }
 
       -- at the last token its kind decides
-      pub told : Told ws (eqb (kind_at ws i) (code Eof))
-      told = (λ e. closed (eqb-true _ _ e), λ e k. eqb-false _ _ e (ap (kind_at ws) (sym at_end) ∙ k.last))
+      pub told_closed : eqb (kind_at ws i) (code Eof) ≡ true → Closed ws
+      told_closed e = closed (eqb-true _ _ e)
+
+      pub told_open : eqb (kind_at ws i) (code Eof) ≡ false → Closed ws → ⊥
+      told_open e k = eqb-false _ _ e (ap (kind_at ws) (sym at_end) ∙ k.last)
+
+pub ruleset closing = (not_zero, not_eof, told_closed, told_open)

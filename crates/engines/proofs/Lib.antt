@@ -1,3 +1,2 @@
-pub mod Truth
 pub mod Closing
 pub mod Counts

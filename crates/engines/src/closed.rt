@@ -5,6 +5,7 @@ ghost use Rattle.quanta_cursor.specs.Tokens.{Closed};
 use quanta_token::token;
 
 // Whether these are whole tokens of known kinds, with Eof at the end and only there.
+#[tactic(auto, using(crate::proofs::Closing::closing))]
 pub fn is_closed(tokens: &[u32]) -> bool
     ensures closed { result ≡ true → Closed tokens.now }
     ensures fact { result ≡ false → Closed tokens.now → ⊥ }

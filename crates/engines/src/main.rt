@@ -8,11 +8,13 @@ mod made;
 mod report;
 mod trial;
 
-fn main() {
+use std::io;
+
+fn main(rt: HostRuntime) -> io::Result<()> {
     let mut tokens = [0u32; 450];
     let mut one = [0u32; 1200];
     let mut two = [0u32; 1200];
     let mut came = [0u32; 32];
     let differing = trial::all(&mut tokens, &mut one, &mut two, &mut came);
-    report::print(differing, &came);
+    report::print(&rt, differing, &came)
 }

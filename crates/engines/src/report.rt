@@ -2,8 +2,7 @@
 ghost use Rattle.std.specs.Prelude.{ℕ, ◌+◌, ◌<◌, ◌≤◌, slice_index};
 
 use crate::trial::LISTS;
-
-const OUT: i32 = 1;
+use std::io;
 
 // One more of this number.
 pub fn count(came: &mut [u32], number: u32)
@@ -16,41 +15,33 @@ pub fn count(came: &mut [u32], number: u32)
     }
 }
 
-fn wide(x: u32) -> u64 {
-    x as u64
-}
-
 // Writes a blank and how often an answer came.
-fn times(n: u32) {
-    io::write_all(OUT, b" ");
-    io::print_decimal(OUT, wide(n));
+fn times(rt: &impl Print, n: u32) -> io::Result<()> {
+    print!(rt; " {n}")
 }
 
 // Writes a refusal's number and how often it came, if it did.
-fn refused(number: u32, n: u32) {
-    if n != 0 {
-        io::write_all(OUT, b", ");
-        io::print_decimal(OUT, wide(number));
-        times(n);
+fn refused(rt: &impl Print, number: u32, n: u32) -> io::Result<()> {
+    if n == 0 {
+        return Ok(());
     }
+    print!(rt; ", {number}")?;
+    times(rt, n)
 }
 
 // Writes the refusals that came.
-fn refusals(came: &[u32; 32]) {
-    let mut i = 1;
-    while i < 32 {
-        refused(i as u32, came[i]);
-        i += 1;
+fn refusals(rt: &impl Print, came: &[u32; 32]) -> io::Result<()> {
+    for number in 1..32u32 {
+        refused(rt, number, came[number as usize])?;
     }
+    Ok(())
 }
 
 // Two lines: how many lists differ; and how many were accepted, and refused by each number that came.
-pub fn print(differing: u32, came: &[u32; 32]) {
-    io::print_decimal(OUT, wide(LISTS));
-    io::write_all(OUT, b" lists, ");
-    io::print_decimal(OUT, wide(differing));
-    io::write_all(OUT, b" differ\naccepted");
-    times(came[0]);
-    refusals(came);
-    io::write_all(OUT, b"\n");
+pub fn print(rt: &impl Print, differing: u32, came: &[u32; 32]) -> io::Result<()> {
+    println!(rt; "{LISTS} lists, {differing} differ")?;
+    print!(rt; "accepted")?;
+    times(rt, came[0])?;
+    refusals(rt, came)?;
+    println!(rt; "")
 }

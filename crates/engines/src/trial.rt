@@ -36,7 +36,7 @@ fn spoil(words: &mut [u32], seed: u32) {
     let mut i = 0;
     while i < words.len() {
         words[i] = word;
-        word = std::num::wrapping_add_u32(word, seed);
+        word = word.wrapping_add(seed);
         i += 1;
     }
 }
@@ -117,7 +117,7 @@ pub fn all(tokens: &mut [u32], one: &mut [u32], two: &mut [u32], came: &mut [u32
                 differing += 1;
             }
         }
-        seed = std::num::wrapping_add_u32(seed, STEP);
+        seed = seed.wrapping_add(STEP);
         round += 1;
     }
     differing

@@ -2,12 +2,12 @@
 -- Assumes nothing.
 use Prim.Native.Nat.{ℕ, zero, suc, ◌+◌, ◌-◌, ◌*◌, ◌/◌, ◌%◌, ◌≤◌, ◌<◌}
 use mathlib.Core.Path.{◌≡◌, refl, ap, sym, ◌∙◌}
-use mathlib.Core.Bool.{Bool, true, false, not, cond, ◌&&◌}
+use mathlib.Core.Bool.{Bool, true, false, cond}
 use mathlib.Core.List.{List, [], ◌∷◌}
 use native.Mathlib.Nat.{not-suc-le-zero, le_of_suc-le-suc, mod-lt, mul-le-mul}
 use native.Mathlib.Numerals.{add-one}
 use native.Mathlib.Omega.{arith}
-use lib.Dec.{eqb, leb, ltb}
+use lib.Dec.{eqb, ltb}
 use lib.ListN.{length, get_or, take, drop, set, length-drop, drop_of_length-le}
 use lib.Seq.{take_all, drop-cons, get_or-set_same, get_or-set_other}
 use borrow.Author.Count.{below_more}
@@ -162,6 +162,9 @@ module _ (v b d : ℕ) (e : d ≡ digit_of b) where
   pub grown_full : d < 10 → LIMIT ≤ v * 10 + d → LIMIT ≡ grown v b
   unfolding grown
   grown_full h g = rw (← e, lt-ltb d 10 h, le-ltb (v * 10 + d) LIMIT g)
+
+-- what tells a number with one digit more
+pub ruleset growing = (grown_none, grown_more, grown_full)
 
 module _ (l : List ℕ) where
   pub number_none : length l ≡ 0 → LIMIT ≡ number_of l

@@ -1,5 +1,5 @@
 -- What stands in a line: fields parted by one blank, numbers in decimal digits, bytes in hexadecimal digits.
-use Rattle.std.specs.Prelude.{ℕ, ◌+◌, ◌-◌, ◌*◌, ◌/◌, ◌%◌, ◌<◌, Bool, true, false, not, cond, ◌&&◌, List, [], ◌∷◌, ◌≡◌, leb, ltb, eqb, length, take, drop, get_or}
+use Rattle.std.specs.Prelude.{ℕ, ◌+◌, ◌-◌, ◌*◌, ◌/◌, ◌%◌, ◌<◌, Bool, not, cond, ◌&&◌, List, [], ◌∷◌, ◌≡◌, leb, ltb, eqb, length, take, drop, get_or}
 use Rattle.quanta_stored.specs.Runs.{run, fold}
 
 abbrev pub BLANK : ℕ

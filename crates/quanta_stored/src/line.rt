@@ -72,6 +72,7 @@ fn digit(b: u8) -> u64
 }
 
 // A number with one digit more.
+#[tactic(auto, using(crate::proofs::Laws::growing))]
 fn grown(value: u64, b: u8) -> u64
     requires { value ≤ 4294967296 }
     ensures { (result ≡ grown value b) × (result ≤ 4294967296) }

@@ -4,12 +4,22 @@
 mod replay;
 mod report;
 
-fn main() {
+use quanta_show::input::read_full;
+use std::io;
+
+fn main(rt: HostRuntime) -> io::Result<()> {
     let mut list = [0u8; 131072];
     let mut words = [0u8; 65537];
     let mut source = [0u8; 1048577];
     let mut tokens = [0u32; 2048];
     let mut tree = [0u32; 2048];
-    let n = io::read_full(0, &mut list);
-    replay::all(&list[..n], &mut words, &mut source, &mut tokens, &mut tree);
+    let n = read_full(&rt, &mut list)?;
+    replay::all(
+        &rt,
+        &list[..n],
+        &mut words,
+        &mut source,
+        &mut tokens,
+        &mut tree,
+    )
 }

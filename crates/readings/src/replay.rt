@@ -6,6 +6,7 @@ use quanta::export::{
 use quanta_reading::outcome::Outcome;
 use quanta_stored::line::{field, fill, find, number, rest, size};
 use quanta_stored::words::{spoil, sum};
+use std::io;
 
 // The fields of a line: the edition, the call, the word table, the source, the lengths of both buffers, and from ANSWER
 // on the answer.
@@ -98,28 +99,29 @@ fn has_stored(line: &[u8], came: &[u64; 10]) -> bool {
 
 // Makes the call of a line, all buffers being just as long as it says; prints what differs, and tells whether anything does.
 fn call_differs(
+    rt: &impl Print,
     no: u64,
     line: &[u8],
     words: &mut [u8],
     source: &mut [u8],
     tokens: &mut [u32],
     tree: &mut [u32],
-) -> bool {
+) -> io::Result<bool> {
     let edition = number(field(line, EDITION));
     let call = number(field(line, CALL));
     let token_words = number(field(line, TOKENS));
     let tree_words = number(field(line, TREE));
     if edition > LARGEST {
-        return report::malformed(no, line);
+        return report::malformed(rt, no, line);
     }
     if call > 4 {
-        return report::malformed(no, line);
+        return report::malformed(rt, no, line);
     }
     if token_words > tokens.len() as u64 {
-        return report::malformed(no, line);
+        return report::malformed(rt, no, line);
     }
     if tree_words > tree.len() as u64 {
-        return report::malformed(no, line);
+        return report::malformed(rt, no, line);
     }
     let e = edition as u32;
     let t = token_words as usize;
@@ -134,45 +136,61 @@ fn call_differs(
         &mut tree[..r],
     );
     if has_stored(line, &came) {
-        return false;
+        return Ok(false);
     }
-    report::different(no, line, &came)
+    report::different(rt, no, line, &came)
 }
 
 // Replays a line whose word table and source fit.
 fn line_differs(
+    rt: &impl Print,
     no: u64,
     line: &[u8],
     words: &mut [u8],
     source: &mut [u8],
     tokens: &mut [u32],
     tree: &mut [u32],
-) -> bool {
+) -> io::Result<bool> {
     let word_bytes = size(field(line, WORDS));
     let source_bytes = size(field(line, SOURCE));
     if word_bytes > words.len() as u64 {
-        return report::malformed(no, line);
+        return report::malformed(rt, no, line);
     }
     if source_bytes > source.len() as u64 {
-        return report::malformed(no, line);
+        return report::malformed(rt, no, line);
     }
     let w = word_bytes as usize;
     let s = source_bytes as usize;
-    call_differs(no, line, &mut words[..w], &mut source[..s], tokens, tree)
+    call_differs(
+        rt,
+        no,
+        line,
+        &mut words[..w],
+        &mut source[..s],
+        tokens,
+        tree,
+    )
 }
 
 // Replays each line of a list, and counts.
-pub fn all(list: &[u8], words: &mut [u8], source: &mut [u8], tokens: &mut [u32], tree: &mut [u32]) {
+pub fn all(
+    rt: &impl Print,
+    list: &[u8],
+    words: &mut [u8],
+    source: &mut [u8],
+    tokens: &mut [u32],
+    tree: &mut [u32],
+) -> io::Result<()> {
     let mut lines: u64 = 0;
     let mut differing: u64 = 0;
     let mut at = 0;
     while at < list.len() {
         let end = at + find(&list[at..], b'\n');
         lines += 1;
-        if line_differs(lines, &list[at..end], words, source, tokens, tree) {
+        if line_differs(rt, lines, &list[at..end], words, source, tokens, tree)? {
             differing += 1;
         }
         at = end + 1;
     }
-    report::last(lines, differing);
+    report::last(rt, lines, differing)
 }

@@ -1,57 +1,50 @@
 // What the program prints. Of a line it answers true: the line differs.
-ghost use Rattle.std.specs.Prelude.{◌≡◌, true};
+ghost use Rattle.std.specs.Prelude.{◌≡◌, true, IfOk};
 
 use crate::replay::{ANSWER, CALL, EDITION};
 use quanta_show::print_number;
 use quanta_stored::line::{field, rest};
-
-const OUT: i32 = 1;
+use std::io;
 
 // Writes the number of a line, its edition and its call.
-fn place(no: u64, line: &[u8]) {
-    io::write_all(OUT, b"line ");
-    io::print_decimal(OUT, no);
-    io::write_all(OUT, b" edition ");
-    io::write_all(OUT, field(line, EDITION));
-    io::write_all(OUT, b" call ");
-    io::write_all(OUT, field(line, CALL));
+fn place(rt: &impl Print, no: u64, line: &[u8]) -> io::Result<()> {
+    print!(rt; "line {no} edition ")?;
+    rt.write_all(field(line, EDITION))?;
+    print!(rt; " call ")?;
+    rt.write_all(field(line, CALL))
 }
 
 // A line that no call can be made of.
-pub fn malformed(no: u64, line: &[u8]) -> bool
-    ensures { result ≡ true }
+pub fn malformed(rt: &impl Print, no: u64, line: &[u8]) -> io::Result<bool>
+    ensures { IfOk result (λ differs. differs ≡ true) }
 {
-    place(no, line);
-    io::write_all(OUT, b": malformed\n");
-    true
+    place(rt, no, line)?;
+    println!(rt; ": malformed")?;
+    Ok(true)
 }
 
 // Writes each number with a blank before it.
-fn numbers(came: &[u64; 10]) {
-    let mut i = 0;
-    while i < 10 {
-        print_number(came[i]);
-        i += 1;
+fn numbers(rt: &impl Print, came: &[u64; 10]) -> io::Result<()> {
+    for n in came {
+        print_number(rt, *n)?;
     }
+    Ok(())
 }
 
 // A line whose call answers something else.
-pub fn different(no: u64, line: &[u8], came: &[u64; 10]) -> bool
-    ensures { result ≡ true }
+pub fn different(rt: &impl Print, no: u64, line: &[u8], came: &[u64; 10]) -> io::Result<bool>
+    ensures { IfOk result (λ differs. differs ≡ true) }
 {
-    place(no, line);
-    io::write_all(OUT, b": stored ");
-    io::write_all(OUT, rest(line, ANSWER));
-    io::write_all(OUT, b", came");
-    numbers(came);
-    io::write_all(OUT, b"\n");
-    true
+    place(rt, no, line)?;
+    print!(rt; ": stored ")?;
+    rt.write_all(rest(line, ANSWER))?;
+    print!(rt; ", came")?;
+    numbers(rt, came)?;
+    println!(rt; "")?;
+    Ok(true)
 }
 
 // How many lines there are, and how many of them differ.
-pub fn last(lines: u64, differing: u64) {
-    io::print_decimal(OUT, lines);
-    io::write_all(OUT, b" readings, ");
-    io::print_decimal(OUT, differing);
-    io::write_all(OUT, b" differ\n");
+pub fn last(rt: &impl Print, lines: u64, differing: u64) -> io::Result<()> {
+    println!(rt; "{lines} readings, {differing} differ")
 }
