@@ -1,0 +1,31 @@
+-- `quanta::calls::parse` meets its contract.
+-- Assumes nothing.
+use native.Mathlib.Omega.{arith}
+use lib.ListN.{length}
+use Rattle.quanta_grammar.specs.Productions.{program_call}
+use Rattle.quanta_grammar.specs.Reading.{program}
+use Rattle.quanta_reading.proofs.Faithful.{faithful}
+use Rattle.quanta_reading.proofs.Conforming.{lexical, short, stands, room, small, cut, whole}
+use borrow.Author.Rules.{rules}
+use Rattle.quanta.proofs.calls.parse.Goals as goal
+
+pub overflow_mul-used : goal.overflow_mul-used
+overflow_mul-used c = omega (arith, small c.args.edition program_call c.args.source.now c.args.words.now (length c.args.tokens.now) c.tokenize.ensures.0 c.in-Accepted.is c.tokenize.ensures.1)
+
+pub slice_bounds-whole_program-end : goal.slice_bounds-whole_program-end
+slice_bounds-whole_program-end c = omega (arith, room c.args.edition program_call c.args.source.now c.args.words.now (length c.args.tokens.now) c.tokenize.ensures.0 c.in-Accepted.is c.tokenize.ensures.1)
+
+pub slice_bounds-whole_program-end-in-Accepted : goal.slice_bounds-whole_program-end-in-Accepted
+slice_bounds-whole_program-end-in-Accepted c = cut c.args.edition program_call c.args.source.now c.args.words.now (length c.args.tokens.now) c.tokenize.ensures.0 c.in-Accepted.is c.tokenize.ensures.1
+
+pub whole_program-parsed-requires : goal.whole_program-parsed-requires
+whole_program-parsed-requires c = stands c.args.edition program_call c.args.source.now c.args.words.now (length c.args.tokens.now) c.tokenize.ensures.0 c.in-Accepted.is c.tokenize.ensures.1
+
+pub returns-in-Refused : goal.returns-in-Refused
+returns-in-Refused c = faithful program (lexical c.args.edition program_call c.args.source.now c.args.words.now (length c.args.tokens.now) (length c.args.tree.now) c.tokenize.ensures.0 c.in-Refused.is c.refuse.ensures.0 c.tokenize.ensures.1 c.refuse.ensures.1)
+
+pub returns-in-Short : goal.returns-in-Short
+returns-in-Short c = faithful program (short c.args.edition program_call c.args.source.now c.args.words.now (length c.args.tokens.now) (length c.args.tree.now) c.tokenize.ensures.0 c.in-Short.is c.no_token_room.ensures.0 c.tokenize.ensures.1 c.no_token_room.ensures.1)
+
+pub returns-in-Accepted : goal.returns-in-Accepted
+returns-in-Accepted c = faithful program (whole c.args.edition program_call c.args.source.now c.args.words.now (length c.args.tokens.now) c.tokenize.ensures.0 c.in-Accepted.is c.tokenize.ensures.1 c.whole_program-parsed.result c.whole_program-parsed.ensures (omega arith) c.finish.ensures)

@@ -1,0 +1,32 @@
+-- `quanta::calls::parse_expr` meets its contract.
+-- Assumes nothing.
+use Rattle.quanta_grammar.specs.Refine.{text}
+use native.Mathlib.Omega.{arith}
+use lib.ListN.{length}
+use Rattle.quanta_grammar.specs.Productions.{expr_call}
+use Rattle.quanta_grammar.specs.Reading.{expr}
+use Rattle.quanta_reading.proofs.Faithful.{faithful}
+use Rattle.quanta_reading.proofs.Conforming.{lexical, short, stands, room, small, cut, whole}
+use borrow.Author.Rules.{rules}
+use Rattle.quanta.proofs.calls.parse_expr.Goals as goal
+
+pub overflow_mul-used : goal.overflow_mul-used
+overflow_mul-used c = omega (arith, small c.args.edition expr_call c.args.source.now c.args.words.now (length c.args.tokens.now) c.tokenize.ensures.0 c.in-Accepted.is c.tokenize.ensures.1)
+
+pub slice_bounds-whole_expr-end : goal.slice_bounds-whole_expr-end
+slice_bounds-whole_expr-end c = omega (arith, room c.args.edition expr_call c.args.source.now c.args.words.now (length c.args.tokens.now) c.tokenize.ensures.0 c.in-Accepted.is c.tokenize.ensures.1)
+
+pub slice_bounds-whole_expr-end-in-Accepted : goal.slice_bounds-whole_expr-end-in-Accepted
+slice_bounds-whole_expr-end-in-Accepted c = cut c.args.edition expr_call c.args.source.now c.args.words.now (length c.args.tokens.now) c.tokenize.ensures.0 c.in-Accepted.is c.tokenize.ensures.1
+
+pub whole_expr-parsed-requires : goal.whole_expr-parsed-requires
+whole_expr-parsed-requires c = stands c.args.edition expr_call c.args.source.now c.args.words.now (length c.args.tokens.now) c.tokenize.ensures.0 c.in-Accepted.is c.tokenize.ensures.1
+
+pub returns-in-Refused : goal.returns-in-Refused
+returns-in-Refused c = faithful expr (lexical c.args.edition expr_call c.args.source.now c.args.words.now (length c.args.tokens.now) (length c.args.tree.now) c.tokenize.ensures.0 c.in-Refused.is c.refuse.ensures.0 c.tokenize.ensures.1 c.refuse.ensures.1)
+
+pub returns-in-Short : goal.returns-in-Short
+returns-in-Short c = faithful expr (short c.args.edition expr_call c.args.source.now c.args.words.now (length c.args.tokens.now) (length c.args.tree.now) c.tokenize.ensures.0 c.in-Short.is c.no_token_room.ensures.0 c.tokenize.ensures.1 c.no_token_room.ensures.1)
+
+pub returns-in-Accepted : goal.returns-in-Accepted
+returns-in-Accepted c = faithful expr (whole c.args.edition expr_call c.args.source.now c.args.words.now (length c.args.tokens.now) c.tokenize.ensures.0 c.in-Accepted.is c.tokenize.ensures.1 c.whole_expr-parsed.result (c.whole_expr-parsed.ensures (text c.args.edition c.args.source.now)) (omega arith) c.finish.ensures)

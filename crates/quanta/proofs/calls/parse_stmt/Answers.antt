@@ -1,0 +1,32 @@
+-- `quanta::calls::parse_stmt` meets its contract.
+-- Assumes nothing.
+use Rattle.quanta_grammar.specs.Refine.{text}
+use native.Mathlib.Omega.{arith}
+use lib.ListN.{length}
+use Rattle.quanta_grammar.specs.Productions.{stmt_call}
+use Rattle.quanta_grammar.specs.Reading.{stmt}
+use Rattle.quanta_reading.proofs.Faithful.{faithful}
+use Rattle.quanta_reading.proofs.Conforming.{lexical, short, stands, room, small, cut, whole}
+use borrow.Author.Rules.{rules}
+use Rattle.quanta.proofs.calls.parse_stmt.Goals as goal
+
+pub overflow_mul-used : goal.overflow_mul-used
+overflow_mul-used c = omega (arith, small c.args.edition stmt_call c.args.source.now c.args.words.now (length c.args.tokens.now) c.tokenize.ensures.0 c.in-Accepted.is c.tokenize.ensures.1)
+
+pub slice_bounds-whole_stmt-end : goal.slice_bounds-whole_stmt-end
+slice_bounds-whole_stmt-end c = omega (arith, room c.args.edition stmt_call c.args.source.now c.args.words.now (length c.args.tokens.now) c.tokenize.ensures.0 c.in-Accepted.is c.tokenize.ensures.1)
+
+pub slice_bounds-whole_stmt-end-in-Accepted : goal.slice_bounds-whole_stmt-end-in-Accepted
+slice_bounds-whole_stmt-end-in-Accepted c = cut c.args.edition stmt_call c.args.source.now c.args.words.now (length c.args.tokens.now) c.tokenize.ensures.0 c.in-Accepted.is c.tokenize.ensures.1
+
+pub whole_stmt-parsed-requires : goal.whole_stmt-parsed-requires
+whole_stmt-parsed-requires c = stands c.args.edition stmt_call c.args.source.now c.args.words.now (length c.args.tokens.now) c.tokenize.ensures.0 c.in-Accepted.is c.tokenize.ensures.1
+
+pub returns-in-Refused : goal.returns-in-Refused
+returns-in-Refused c = faithful stmt (lexical c.args.edition stmt_call c.args.source.now c.args.words.now (length c.args.tokens.now) (length c.args.tree.now) c.tokenize.ensures.0 c.in-Refused.is c.refuse.ensures.0 c.tokenize.ensures.1 c.refuse.ensures.1)
+
+pub returns-in-Short : goal.returns-in-Short
+returns-in-Short c = faithful stmt (short c.args.edition stmt_call c.args.source.now c.args.words.now (length c.args.tokens.now) (length c.args.tree.now) c.tokenize.ensures.0 c.in-Short.is c.no_token_room.ensures.0 c.tokenize.ensures.1 c.no_token_room.ensures.1)
+
+pub returns-in-Accepted : goal.returns-in-Accepted
+returns-in-Accepted c = faithful stmt (whole c.args.edition stmt_call c.args.source.now c.args.words.now (length c.args.tokens.now) c.tokenize.ensures.0 c.in-Accepted.is c.tokenize.ensures.1 c.whole_stmt-parsed.result (c.whole_stmt-parsed.ensures (text c.args.edition c.args.source.now)) (omega arith) c.finish.ensures)
