@@ -7,7 +7,6 @@ use Rattle.quanta_grammar.specs.Productions.{expr_call}
 use Rattle.quanta_grammar.specs.Reading.{expr}
 use Rattle.quanta_reading.proofs.Faithful.{faithful}
 use Rattle.quanta_reading.proofs.Conforming.{lexical, short, stands, room, small, cut, whole}
-use borrow.Author.Rules.{rules}
 use Rattle.quanta.proofs.calls.parse_expr.Goals as goal
 
 pub overflow_mul-used : goal.overflow_mul-used

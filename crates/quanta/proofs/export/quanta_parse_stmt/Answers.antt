@@ -1,6 +1,5 @@
 -- `quanta::export::quanta_parse_stmt` meets its contract: 29, or the call in the edition that was named.
 -- Assumes nothing.
-use borrow.Author.Rules.{rules}
 use Rattle.quanta_grammar.specs.Reading.{stmt}
 use Rattle.quanta_reading.proofs.Numbers.{fits}
 use Rattle.quanta_reading.proofs.Exporting.{known, no_such}

@@ -2,7 +2,6 @@
 -- Assumes nothing.
 use mathlib.Core.Path.{ap}
 use Rattle.quanta_text.specs.declared.place.LineColumn.{LineColumn}
-use borrow.Author.Rules.{rules}
 use Rattle.quanta.proofs.export.quanta_place.Goals as goal
 
 pub returns : goal.returns
