@@ -19,7 +19,7 @@ KEYWORDS = {"use", "let", "in", "module", "where", "infix", "infixl", "infixr"}
 # Lemmas that were in snake case already and have the name that a definition gets.
 LEMMAS = {"plain_at": "plain_at_lem"}
 # Ours that port.py spells by a library's word, and a production with a lemma's name.
-OWN = {"Signed-by": "signed_by", "is_Signed": "is_signed", "no-default": "no_default", "no-day": "is_no_day"}
+OWN = {"Signed-by": "signed_by", "is_Signed": "is_signed", "no-day": "is_no_day", "no_default_lem": "no_default"}
 # Productions that would have their symbol's name.
 PRODUCTIONS = {"type-name": "named_type", "type-args": "some_type_args", "type-arg": "type_as_arg", "of-int": "some_of"}
 
