@@ -6,7 +6,7 @@ usage: python3 tools/port_answers.py CRATE NAMES [FUNCTION..]
 
 A goal's answer keeps its text: `c.before.before.loop.invariant` becomes `c.loop-i.invariant`, by the steps that names.json lists.
 An answer that is only `search rules` goes, since the check tries that by itself. What has no counterpart is printed.
-A walk of a cycle of calls stays as it is.
+The one walk of a cycle of calls is turned too, but for what it says in a `module _ (t : ℕ)`.
 """
 import json
 import os

@@ -133,7 +133,7 @@ def turn_source(path, rows):
         if re.match(r"\s*ghost use ", code):
             code = turn(code, rows)
         else:
-            code = turn(code, {a: b for a, b in rows.items() if is_old(a)})
+            code = turn(code, {a: b for a, b in rows.items() if is_old(a) or a in OWN})
         lines.append(code + (mark + turn_comment(comment, rows) if mark else ""))
     return "\n".join(lines)
 
