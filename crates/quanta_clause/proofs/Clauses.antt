@@ -38,7 +38,7 @@ use Rattle.quanta_cursor.specs.Answers.{single, Failed, Took, Meets}
 use Rattle.quanta_cursor.specs.Cursor.{joined, span_at, Expects, leaf_rec, leaf_node, Words, Closes}
 use Rattle.quanta_cursor.specs.Lists.{TookOn, words}
 use Rattle.quanta_cursor.proofs.Sets.{coarse, fine_in, fine_kind, plain_at_lem, is_one, not_one}
-use Rattle.quanta_cursor.proofs.Places.{past_in, past_as, laid_none, laid_glue, laid_word, all_ready, all_few, ready_past, ready_word}
+use Rattle.quanta_cursor.proofs.Places.{past_in, past_as, laid_none, laid_glue, laid_word, all_ready, all_few, ready_past, ready_word, ready_behind}
 use Rattle.quanta_cursor.proofs.Nodes.{node_of, node_is, words_are}
 use Rattle.quanta_cursor.proofs.Meeting.{next_of, lacks_of, word_of, no_word_of}
 use Rattle.quanta_cursor.proofs.Doing.{Doing, picks, skips, begin, eat, eat_fine, lack, bring, fails, fold_in, fold_fails, over, ends}
@@ -174,7 +174,7 @@ module _ (src : Text) (ws : List ℕ) (a : ℕ) {i n p : ℕ} (g : Ready ws i n)
 
 -- A CLAUSE OF A LIST OF NAMES: the `(` and the first name
 pub first_ready : {ws : List ℕ} {i n : ℕ} {y : Expected} {p : TokenPos} → Expects ws i (code LParen) y → y ≡ expected.Next p → Ready ws i n → Ready ws p.0 n
-first_ready v z g = let w = next_of z v in ready_past g (past_as (code LParen) (λ u. u) g.closed g.inside w.0) w.1
+first_ready v z g = let w = next_of z v in ready_behind (code LParen) (λ u. u) g w.0 w.1
 
 module _ {ws t : List ℕ} {i n : ℕ} {y : Expected} (v : Expects ws i (code LParen) y) where
   pub first_unopened : {e : Refusal} {t' : List ℕ} → y ≡ expected.Refused e → FirstName ws t i n (parsed.Refused e) t'
@@ -244,7 +244,7 @@ module _ (src : Text) (ws : List ℕ) (a : ℕ) {i n p : ℕ} (g : Ready ws i n)
   waiting row r = held row (span r.span.start r.span.end) r.flag
 
   pub after_past : Ready ws p n
-  after_past = ready_past g (past_as (code After) (λ u. u) g.closed g.inside w) q
+  after_past = ready_behind (code After) (λ u. u) g w q
 
   after_is : fine_at src ws i ≡ after_kind (is_duration src ws p)
   after_is = after_kind_lem src ws i g.closed g.inside w ∙ ap (λ (j : ℕ). after_kind (is_duration src ws j)) (sym q)

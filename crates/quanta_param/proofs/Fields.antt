@@ -26,7 +26,7 @@ use Rattle.quanta_cursor.specs.Tokens.{kind_at, from, tok_at, Ready}
 use Rattle.quanta_cursor.specs.Answers.{single, Failed, Took, Meets}
 use Rattle.quanta_cursor.specs.Cursor.{joined, span_at, Expects, Words, close_rec, Closes}
 use Rattle.quanta_cursor.proofs.Sets.{is_one, not_one}
-use Rattle.quanta_cursor.proofs.Places.{past_as, took_ready, ready_past}
+use Rattle.quanta_cursor.proofs.Places.{took_ready, ready_behind}
 use Rattle.quanta_cursor.proofs.Doing.{Doing, picks, skips, begin, eat, bring, fails, over}
 use Rattle.quanta_cursor.proofs.Under.{starts, worded, worded_in, unworded, phrased, unphrased, closed_by}
 use Rattle.quanta_type.specs.declared.half.Typed.{Typed}
@@ -60,7 +60,7 @@ module _ (src : Text) (ws : List ℕ) (a : ℕ) {i n : ℕ} (g : Ready ws i n) (
     default_key = eat (begin src ws i g.inside default a_default a x (picks (code Eq ∷ []) a_default [] (use' no_default) tt src ws i (is_one (code Eq) u)) refl) tt g.inside (is_one (code Eq) u) e
 
     pub default_past : Ready ws p n
-    default_past = ready_past g (past_as (code Eq) (λ u. u) g.closed g.inside u) e
+    default_past = ready_behind (code Eq) (λ u. u) g u e
 
     pub default_bad : {w : Refusal} → Failed (reads expr a (from src ws p) fresh) w → Failed (reads default a (from src ws i) x) w
     default_bad f = fails default_key f

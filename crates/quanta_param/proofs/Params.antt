@@ -30,7 +30,7 @@ use Rattle.quanta_cursor.specs.Answers.{single, Failed, Took, TookAll}
 use Rattle.quanta_cursor.specs.Cursor.{joined, span_at, Expects, leaf_rec, Words}
 use Rattle.quanta_cursor.specs.Lists.{grown, TookOn}
 use Rattle.quanta_cursor.proofs.Sets.{is_one, not_one}
-use Rattle.quanta_cursor.proofs.Places.{past_as, past_in, ready_past, ready_word}
+use Rattle.quanta_cursor.proofs.Places.{past_as, past_in, ready_past, ready_word, ready_behind}
 use Rattle.quanta_cursor.proofs.Places.{laid_none, laid_word, laid_glue, laid_put}
 use Rattle.quanta_cursor.proofs.Meeting.{next_of, lacks_of, word_of, no_word_of}
 use Rattle.quanta_cursor.proofs.Doing.{Doing, picks, skips, begin, eat, lack, fold_fails, over}
@@ -71,7 +71,7 @@ module _ (src : Text) (ws : List ℕ) (a : ℕ) {i n : ℕ} (g : Ready ws i n) (
     signer_key = eat (begin src ws i g.inside signed_opt signed_by a x (picks (code Signed ∷ []) signed_by [] (use' no_signed) tt src ws i (is_one (code Signed) u)) refl) tt g.inside (is_one (code Signed) u) e
 
     pub signer_past : Ready ws p n
-    signer_past = ready_past g (past_as (code Signed) (λ u. u) g.closed g.inside u) e
+    signer_past = ready_behind (code Signed) (λ u. u) g u e
 
     module _ {y : Expected} (v : Expects ws p (code By) y) where
       pub signer_byless : {w : Refusal} → y ≡ expected.Refused w → Failed (reads signed_opt a (from src ws i) x) w

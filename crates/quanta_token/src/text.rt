@@ -1,10 +1,10 @@
 // Texts, compared byte for byte.
 ghost use Rattle.std.specs.Prelude.{◌≡◌};
-ghost use Rattle.quanta_token.specs.Text.{same as sameBytes, kind_if};
+ghost use Rattle.quanta_token.specs.Text.{same as same_bytes, kind_if};
 
 // Whether a and b hold the same bytes.
 pub fn same(a: &[u8], b: &[u8]) -> bool
-    ensures { result ≡ sameBytes a.now b.now }
+    ensures { result ≡ same_bytes a.now b.now }
 {
     if a.len() != b.len() {
         return false;

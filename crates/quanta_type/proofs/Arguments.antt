@@ -18,7 +18,7 @@ use Rattle.quanta_cursor.specs.declared.parser.Node.{Node}
 use Rattle.quanta_cursor.specs.declared.parser.Refusal.{Refusal}
 use Rattle.quanta_cursor.specs.Tokens.{kind_at, from, Ready}
 use Rattle.quanta_cursor.specs.Answers.{Failed, Took}
-use Rattle.quanta_cursor.proofs.Places.{past_as, ready_past, took_onward, took_ready}
+use Rattle.quanta_cursor.proofs.Places.{took_onward, took_ready, ready_behind}
 use Rattle.quanta_cursor.proofs.Lists.{Commas, Rolls, roll_first, comma_on, comma_bad, comma_stop, took_more}
 use Rattle.quanta_cursor.proofs.Listing.{list_none}
 use Rattle.quanta_type.specs.declared.half.Typed.{Typed}
@@ -157,7 +157,7 @@ module _ {s l : Symbol} (e : Element s l) where
             bad = λ x b. comma_bad (rolls x) law behind.inside w h b;
             on = λ x b. comma_on (rolls x) law behind.inside w h b refl;
             half = λ x b. half_more law (rolls x) behind w h b refl refl refl;
-            ready = ready_past behind (past_as (code Comma) (λ u. u) behind.closed behind.inside w) h;
+            ready = ready_behind (code Comma) (λ u. u) behind w h;
             few = one_more;
             long = same_long;
           }

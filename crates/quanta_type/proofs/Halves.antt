@@ -37,7 +37,7 @@ use Rattle.quanta_cursor.specs.Answers.{shown, Failed}
 use Rattle.quanta_cursor.specs.Cursor.{err_at}
 use Rattle.quanta_cursor.specs.Lists.{grown}
 use Rattle.quanta_cursor.proofs.Sets.{fine_in, fine_out, plain_at_lem, is_one, not_one}
-use Rattle.quanta_cursor.proofs.Places.{from_at, from_length, past_as, ready_past, laid_glue}
+use Rattle.quanta_cursor.proofs.Places.{from_at, from_length, laid_glue, ready_behind}
 use Rattle.quanta_cursor.proofs.Doing.{Doing, shows}
 use Rattle.quanta_cursor.proofs.Lists.{Commas, Rolls, count_glue, grown_grown}
 use Rattle.quanta_type.specs.Halves.{is_pair, half_from, half_err, TookHalf, TookOnHalf}
@@ -217,7 +217,7 @@ module _ {src : Text} (s : Symbol) (a : ℕ) {ws : List ℕ} {at : ℕ} {t : Lis
 
 -- behind both halves
 pub half_past : {ws : List ℕ} {p p' n : ℕ} → Ready ws p n → kind_at ws p ≡ code Shr → p' ≡ p + 1 → Ready ws p' n
-half_past g e z = ready_past g (past_as (code Shr) (λ u. u) g.closed g.inside e) z
+half_past g e z = ready_behind (code Shr) (λ u. u) g e z
 
 -- A LIST ends behind an element that the first half of a `>>` closed: the first element ..
 module _ {l s : Symbol} (law : Commas l s) {src : Text} {ws : List ℕ} (a : ℕ) {i : ℕ} {t : List ℕ} {n : ℕ} {m : Node}
@@ -242,7 +242,7 @@ module _ {l s : Symbol} (law : Commas l s) {o : Outcome} {src : Text} {ws t : Li
     {p' : ℕ} (e : p' ≡ p + 1)
     {m : Node} {tree' : List ℕ} (k : TookHalf (reads s a (from src ws p') fresh) src ws tree q m tree') where
   behind : Ready ws p' q
-  behind = ready_past g (past_as (code Comma) (λ u. u) g.closed g.inside z) e
+  behind = ready_behind (code Comma) (λ u. u) g z e
 
   pub half_more : {r : Nodes} → r.at.0 ≡ m.at.0 → r.no.0 ≡ m.no.0 → r.count ≡ c + 1
       → TookOnHalf o x src ws t n r tree'

@@ -1,30 +1,23 @@
 -- `quanta_engine::expr::call` meets its contract: 20, no arguments, or the first.
 -- Assumes nothing.
--- behind the `(`
 use mathlib.Core.Path.{sym, ◌∙◌}
 use Rattle.quanta_token.specs.TokenKind.{code, LParen}
-use Rattle.quanta_cursor.proofs.Places.{past_as, ready_past, ready_small}
+use Rattle.quanta_cursor.proofs.Places.{ready_behind, ready_small}
 use Rattle.quanta_cursor.proofs.Meeting.{left_of, spent_of}
 use Rattle.quanta_engine.proofs.Suffixed.{spent_turn, empty_turn, call_turn}
 use Rattle.quanta_engine.proofs.expr.call.Goals as goal
 
 pub peek-requires : goal.peek-requires
 peek-requires c =
-    let r = c.requires.0 in
-    let inside = ready_past r (past_as (code LParen) (λ u. u) r.closed r.inside c.requires.2) c.bump-next.ensures in
-    inside.inside
+    (ready_behind (code LParen) (λ u. u) c.requires.0 c.requires.2 c.bump-next.ensures).inside
 
 pub empty_call-requires : goal.empty_call-requires
 empty_call-requires c =
-    let r = c.requires.0 in
-    let inside = ready_past r (past_as (code LParen) (λ u. u) r.closed r.inside c.requires.2) c.bump-next.ensures in
-    (inside, ready_small r)
+    (ready_behind (code LParen) (λ u. u) c.requires.0 c.requires.2 c.bump-next.ensures, ready_small c.requires.0)
 
 pub push-requires : goal.push-requires
 push-requires c =
-    let r = c.requires.0 in
-    let inside = ready_past r (past_as (code LParen) (λ u. u) r.closed r.inside c.requires.2) c.bump-next.ensures in
-    inside.inside
+    (ready_behind (code LParen) (λ u. u) c.requires.0 c.requires.2 c.bump-next.ensures).inside
 
 pub returns-then-peek-eq-RPAREN : goal.returns-then-peek-eq-RPAREN
 returns-then-peek-eq-RPAREN c = λ top.

@@ -2,7 +2,7 @@
 -- Assumes nothing.
 use mathlib.Core.Path.{refl}
 use Rattle.quanta_token.specs.TokenKind.{code, Dot}
-use Rattle.quanta_cursor.proofs.Places.{past_as, ready_past}
+use Rattle.quanta_cursor.proofs.Places.{ready_behind}
 use Rattle.quanta_cursor.proofs.Meeting.{left_of, spent_of}
 use Rattle.quanta_engine.proofs.Suffixed.{spent_turn, dot_turn}
 use Rattle.quanta_engine.proofs.expr.dot.Goals as goal
@@ -10,7 +10,7 @@ use Rattle.quanta_engine.proofs.expr.dot.Goals as goal
 pub access-requires : goal.access-requires
 access-requires c =
     let r = c.requires.0 in
-    ready_past r (past_as (code Dot) (λ u. u) r.closed r.inside c.requires.2) refl
+    ready_behind (code Dot) (λ u. u) r c.requires.2 refl
 
 pub returns-in-Refused : goal.returns-in-Refused
 returns-in-Refused c = λ top.

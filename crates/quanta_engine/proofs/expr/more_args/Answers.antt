@@ -3,7 +3,7 @@ use native.Mathlib.Omega.{arith}
 use Rattle.quanta_token.specs.TokenKind.{code, Comma}
 use Rattle.quanta_grammar.specs.Productions.{expr}
 use Rattle.quanta_grammar.specs.Refine.{blank}
-use Rattle.quanta_cursor.proofs.Places.{past_as, ready_past, ready_small, took_onward, took_ready}
+use Rattle.quanta_cursor.proofs.Places.{ready_behind, ready_small, took_onward, took_ready}
 use Rattle.quanta_cursor.proofs.Meeting.{took_all, failed_all, took_of, failed_of}
 use Rattle.quanta_cursor.proofs.Lists.{rolling_in, rolling_on, rolled, arguments}
 use Rattle.quanta_cursor.proofs.Lists.{comma_on, comma_bad, comma_stop, took_more}
@@ -19,8 +19,7 @@ bump-requires c = ready_small c.loop-at.invariant.ready
 pub expr-requires : goal.expr-requires
 expr-requires c =
     let comma = sym c.peek.ensures ∙ c.if-peek-ne-COMMA.false in
-    let r = c.loop-at.invariant.ready in
-    let further = ready_past r (past_as (code Comma) (λ u. u) r.closed r.inside comma) c.bump.ensures in
+    let further = ready_behind (code Comma) (λ u. u) c.loop-at.invariant.ready comma c.bump.ensures in
     (further, c.requires.1)
 
 pub overflow_add-count : goal.overflow_add-count
@@ -47,8 +46,7 @@ returns-in-Refused c = λ src o t n w.
 pub loop-at-smaller : goal.loop-at-smaller
 loop-at-smaller c =
     let comma = sym c.peek.ensures ∙ c.if-peek-ne-COMMA.false in
-    let r = c.loop-at.invariant.ready in
-    let further = ready_past r (past_as (code Comma) (λ u. u) r.closed r.inside comma) c.bump.ensures in
+    let further = ready_behind (code Comma) (λ u. u) c.loop-at.invariant.ready comma c.bump.ensures in
     let z = took_of c.in-Node.is (c.expr.ensures blank) in
     let y = took_onward blank expr c.args.allowance further.inside z in
     omega (arith, y.0, c.bump.ensures, c.loop-at.invariant.ready.inside)
@@ -56,8 +54,7 @@ loop-at-smaller c =
 pub loop-at-preserved : goal.loop-at-preserved
 loop-at-preserved c =
     let comma = sym c.peek.ensures ∙ c.if-peek-ne-COMMA.false in
-    let r = c.loop-at.invariant.ready in
-    let further = ready_past r (past_as (code Comma) (λ u. u) r.closed r.inside comma) c.bump.ensures in
+    let further = ready_behind (code Comma) (λ u. u) c.loop-at.invariant.ready comma c.bump.ensures in
     let i = c.loop-at.invariant in
     let y = took_of c.in-Node.is (c.expr.ensures blank) in
     rolling_on i

@@ -1,6 +1,5 @@
 -- `quanta_engine::expr::wrap` meets its contract: a keyword, and its `(` or another token.
 -- Assumes nothing.
--- another token stands behind the keyword
 use Prim.Native.Nat.{◌<◌}
 use native.Mathlib.Omega.{arith}
 use Rattle.quanta_token.specs.TokenKind.{code, LParen}

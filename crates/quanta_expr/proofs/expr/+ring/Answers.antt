@@ -8,7 +8,7 @@ use Rattle.quanta_grammar.specs.NodeKind.{unary_node, binary_node}
 use Rattle.quanta_grammar.specs.Productions as pr
 use Rattle.quanta_grammar.specs.Productions.{operators, prefixes}
 use Rattle.quanta_cursor.proofs.Sets.{not_one}
-use Rattle.quanta_cursor.proofs.Places.{past_as, ready_past, ready_small, ready_few, took_onward, took_ready, all_onward, all_ready, all_few}
+use Rattle.quanta_cursor.proofs.Places.{past_as, ready_past, ready_small, ready_few, took_onward, took_ready, all_onward, all_ready, all_few, ready_behind}
 use Rattle.quanta_cursor.proofs.Meeting.{took, failed, failed_by, took_all, failed_all, took_of, failed_of, all_of, all_failed_of, left_of, spent_of, next_of, lacks_of}
 use Rattle.quanta_cursor.proofs.Lists.{rolling_in, rolling_on, rolled, arguments, comma_on, comma_bad, comma_stop, took_more}
 use Rattle.quanta_cursor.proofs.Doing.{close_ready}
@@ -381,10 +381,10 @@ pub primary-bump-requires : goal.primary-bump-requires
 primary-bump-requires t c = ready_small c.requires
 
 pub primary-expr-requires : goal.primary-expr-requires
-primary-expr-requires t c = (omega (arith, c.decreases), (ready_past c.requires (past_as (code LParen) (λ u. u) c.requires.closed c.requires.inside (sym c.peek-kind.ensures ∙ c.in-38.is)) c.bump.ensures))
+primary-expr-requires t c = (omega (arith, c.decreases), (ready_behind (code LParen) (λ u. u) c.requires (sym c.peek-kind.ensures ∙ c.in-38.is) c.bump.ensures))
 
 pub primary-parens-requires : goal.primary-parens-requires
-primary-parens-requires t c = took_ready blank pr.expr c.args.allowance (ready_past c.requires (past_as (code LParen) (λ u. u) c.requires.closed c.requires.inside (sym c.peek-kind.ensures ∙ c.in-38.is)) c.bump.ensures) (took_of c.in-Node.is (c.expr.ensures blank))
+primary-parens-requires t c = took_ready blank pr.expr c.args.allowance (ready_behind (code LParen) (λ u. u) c.requires (sym c.peek-kind.ensures ∙ c.in-38.is) c.bump.ensures) (took_of c.in-Node.is (c.expr.ensures blank))
 
 pub primary-bump-requires-in-34 : goal.primary-bump-requires-in-34
 primary-bump-requires-in-34 t c = ready_small c.requires
@@ -393,10 +393,10 @@ pub primary-expect-requires : goal.primary-expect-requires
 primary-expect-requires t c = (omega (arith, c.bump-in-34.ensures, (past_as (code Checked) (λ u. u) c.requires.closed c.requires.inside (sym c.peek-kind.ensures ∙ c.in-34.is))), c.requires.closed.few)
 
 pub primary-expr-requires-in-Next : goal.primary-expr-requires-in-Next
-primary-expr-requires-in-Next t c = (omega (arith, c.decreases), (ready_past (ready_past c.requires (past_as (code Checked) (λ u. u) c.requires.closed c.requires.inside (sym c.peek-kind.ensures ∙ c.in-34.is)) c.bump-in-34.ensures) (past_as (code LParen) (λ u. u) c.requires.closed (ready_past c.requires (past_as (code Checked) (λ u. u) c.requires.closed c.requires.inside (sym c.peek-kind.ensures ∙ c.in-34.is)) c.bump-in-34.ensures).inside (next_of c.in-Next.is c.expect.ensures).0) (next_of c.in-Next.is c.expect.ensures).1))
+primary-expr-requires-in-Next t c = (omega (arith, c.decreases), (ready_past (ready_behind (code Checked) (λ u. u) c.requires (sym c.peek-kind.ensures ∙ c.in-34.is) c.bump-in-34.ensures) (past_as (code LParen) (λ u. u) c.requires.closed (ready_behind (code Checked) (λ u. u) c.requires (sym c.peek-kind.ensures ∙ c.in-34.is) c.bump-in-34.ensures).inside (next_of c.in-Next.is c.expect.ensures).0) (next_of c.in-Next.is c.expect.ensures).1))
 
 pub primary-wrap-requires : goal.primary-wrap-requires
-primary-wrap-requires t c = let k = (took_of c.in-Node-expr.is (c.expr-in-Next.ensures blank)) in let y = took_onward blank pr.expr c.args.allowance (ready_past (ready_past c.requires (past_as (code Checked) (λ u. u) c.requires.closed c.requires.inside (sym c.peek-kind.ensures ∙ c.in-34.is)) c.bump-in-34.ensures) (past_as (code LParen) (λ u. u) c.requires.closed (ready_past c.requires (past_as (code Checked) (λ u. u) c.requires.closed c.requires.inside (sym c.peek-kind.ensures ∙ c.in-34.is)) c.bump-in-34.ensures).inside (next_of c.in-Next.is c.expect.ensures).0) (next_of c.in-Next.is c.expect.ensures).1).inside k in (took_ready blank pr.expr c.args.allowance (ready_past (ready_past c.requires (past_as (code Checked) (λ u. u) c.requires.closed c.requires.inside (sym c.peek-kind.ensures ∙ c.in-34.is)) c.bump-in-34.ensures) (past_as (code LParen) (λ u. u) c.requires.closed (ready_past c.requires (past_as (code Checked) (λ u. u) c.requires.closed c.requires.inside (sym c.peek-kind.ensures ∙ c.in-34.is)) c.bump-in-34.ensures).inside (next_of c.in-Next.is c.expect.ensures).0) (next_of c.in-Next.is c.expect.ensures).1) k, omega (arith, y.0, c.bump-in-34.ensures, (next_of c.in-Next.is c.expect.ensures).1))
+primary-wrap-requires t c = let k = (took_of c.in-Node-expr.is (c.expr-in-Next.ensures blank)) in let y = took_onward blank pr.expr c.args.allowance (ready_past (ready_behind (code Checked) (λ u. u) c.requires (sym c.peek-kind.ensures ∙ c.in-34.is) c.bump-in-34.ensures) (past_as (code LParen) (λ u. u) c.requires.closed (ready_behind (code Checked) (λ u. u) c.requires (sym c.peek-kind.ensures ∙ c.in-34.is) c.bump-in-34.ensures).inside (next_of c.in-Next.is c.expect.ensures).0) (next_of c.in-Next.is c.expect.ensures).1).inside k in (took_ready blank pr.expr c.args.allowance (ready_past (ready_behind (code Checked) (λ u. u) c.requires (sym c.peek-kind.ensures ∙ c.in-34.is) c.bump-in-34.ensures) (past_as (code LParen) (λ u. u) c.requires.closed (ready_behind (code Checked) (λ u. u) c.requires (sym c.peek-kind.ensures ∙ c.in-34.is) c.bump-in-34.ensures).inside (next_of c.in-Next.is c.expect.ensures).0) (next_of c.in-Next.is c.expect.ensures).1) k, omega (arith, y.0, c.bump-in-34.ensures, (next_of c.in-Next.is c.expect.ensures).1))
 
 pub primary-bump-requires-in-35 : goal.primary-bump-requires-in-35
 primary-bump-requires-in-35 t c = ready_small c.requires
@@ -405,10 +405,10 @@ pub primary-expect-requires-in-35 : goal.primary-expect-requires-in-35
 primary-expect-requires-in-35 t c = (omega (arith, c.bump-in-35.ensures, (past_as (code Wrapping) (λ u. u) c.requires.closed c.requires.inside (sym c.peek-kind.ensures ∙ c.in-35.is))), c.requires.closed.few)
 
 pub primary-expr-requires-in-Next-expect : goal.primary-expr-requires-in-Next-expect
-primary-expr-requires-in-Next-expect t c = (omega (arith, c.decreases), (ready_past (ready_past c.requires (past_as (code Wrapping) (λ u. u) c.requires.closed c.requires.inside (sym c.peek-kind.ensures ∙ c.in-35.is)) c.bump-in-35.ensures) (past_as (code LParen) (λ u. u) c.requires.closed (ready_past c.requires (past_as (code Wrapping) (λ u. u) c.requires.closed c.requires.inside (sym c.peek-kind.ensures ∙ c.in-35.is)) c.bump-in-35.ensures).inside (next_of c.in-Next-expect.is c.expect-in-35.ensures).0) (next_of c.in-Next-expect.is c.expect-in-35.ensures).1))
+primary-expr-requires-in-Next-expect t c = (omega (arith, c.decreases), (ready_past (ready_behind (code Wrapping) (λ u. u) c.requires (sym c.peek-kind.ensures ∙ c.in-35.is) c.bump-in-35.ensures) (past_as (code LParen) (λ u. u) c.requires.closed (ready_behind (code Wrapping) (λ u. u) c.requires (sym c.peek-kind.ensures ∙ c.in-35.is) c.bump-in-35.ensures).inside (next_of c.in-Next-expect.is c.expect-in-35.ensures).0) (next_of c.in-Next-expect.is c.expect-in-35.ensures).1))
 
 pub primary-wrap-requires-in-Node-expr-2 : goal.primary-wrap-requires-in-Node-expr-2
-primary-wrap-requires-in-Node-expr-2 t c = let k = (took_of c.in-Node-expr-2.is (c.expr-in-Next-expect.ensures blank)) in let y = took_onward blank pr.expr c.args.allowance (ready_past (ready_past c.requires (past_as (code Wrapping) (λ u. u) c.requires.closed c.requires.inside (sym c.peek-kind.ensures ∙ c.in-35.is)) c.bump-in-35.ensures) (past_as (code LParen) (λ u. u) c.requires.closed (ready_past c.requires (past_as (code Wrapping) (λ u. u) c.requires.closed c.requires.inside (sym c.peek-kind.ensures ∙ c.in-35.is)) c.bump-in-35.ensures).inside (next_of c.in-Next-expect.is c.expect-in-35.ensures).0) (next_of c.in-Next-expect.is c.expect-in-35.ensures).1).inside k in (took_ready blank pr.expr c.args.allowance (ready_past (ready_past c.requires (past_as (code Wrapping) (λ u. u) c.requires.closed c.requires.inside (sym c.peek-kind.ensures ∙ c.in-35.is)) c.bump-in-35.ensures) (past_as (code LParen) (λ u. u) c.requires.closed (ready_past c.requires (past_as (code Wrapping) (λ u. u) c.requires.closed c.requires.inside (sym c.peek-kind.ensures ∙ c.in-35.is)) c.bump-in-35.ensures).inside (next_of c.in-Next-expect.is c.expect-in-35.ensures).0) (next_of c.in-Next-expect.is c.expect-in-35.ensures).1) k, omega (arith, y.0, c.bump-in-35.ensures, (next_of c.in-Next-expect.is c.expect-in-35.ensures).1))
+primary-wrap-requires-in-Node-expr-2 t c = let k = (took_of c.in-Node-expr-2.is (c.expr-in-Next-expect.ensures blank)) in let y = took_onward blank pr.expr c.args.allowance (ready_past (ready_behind (code Wrapping) (λ u. u) c.requires (sym c.peek-kind.ensures ∙ c.in-35.is) c.bump-in-35.ensures) (past_as (code LParen) (λ u. u) c.requires.closed (ready_behind (code Wrapping) (λ u. u) c.requires (sym c.peek-kind.ensures ∙ c.in-35.is) c.bump-in-35.ensures).inside (next_of c.in-Next-expect.is c.expect-in-35.ensures).0) (next_of c.in-Next-expect.is c.expect-in-35.ensures).1).inside k in (took_ready blank pr.expr c.args.allowance (ready_past (ready_behind (code Wrapping) (λ u. u) c.requires (sym c.peek-kind.ensures ∙ c.in-35.is) c.bump-in-35.ensures) (past_as (code LParen) (λ u. u) c.requires.closed (ready_behind (code Wrapping) (λ u. u) c.requires (sym c.peek-kind.ensures ∙ c.in-35.is) c.bump-in-35.ensures).inside (next_of c.in-Next-expect.is c.expect-in-35.ensures).0) (next_of c.in-Next-expect.is c.expect-in-35.ensures).1) k, omega (arith, y.0, c.bump-in-35.ensures, (next_of c.in-Next-expect.is c.expect-in-35.ensures).1))
 
 pub primary-err-requires : goal.primary-err-requires
 primary-err-requires t c = c.requires.inside
@@ -426,7 +426,7 @@ pub primary-returns-in-Refused-expr : goal.primary-returns-in-Refused-expr
 primary-returns-in-Refused-expr t c = λ src. failed (wrap_bad src c.args.tokens.now c.args.at.0 c.args.allowance c.requires.inside (at_checked src c.args.tokens.now c.args.at.0 c.args.allowance c.requires.inside (sym c.peek-kind.ensures ∙ c.in-34.is)) c.bump-in-34.ensures (past_as (code Checked) (λ u. u) c.requires.closed c.requires.inside (sym c.peek-kind.ensures ∙ c.in-34.is)) c.requires.closed (next_of c.in-Next.is c.expect.ensures) (failed_of c.in-Refused-expr.is (c.expr-in-Next.ensures src)))
 
 pub primary-returns-in-Node-expr : goal.primary-returns-in-Node-expr
-primary-returns-in-Node-expr t c = λ src. let k = (took_of c.in-Node-expr.is (c.expr-in-Next.ensures src)) in wrap_met src c.args.tokens.now c.args.at.0 c.args.allowance c.requires.inside (at_checked src c.args.tokens.now c.args.at.0 c.args.allowance c.requires.inside (sym c.peek-kind.ensures ∙ c.in-34.is)) c.bump-in-34.ensures (past_as (code Checked) (λ u. u) c.requires.closed c.requires.inside (sym c.peek-kind.ensures ∙ c.in-34.is)) c.requires.closed (next_of c.in-Next.is c.expect.ensures) k (took_ready src pr.expr c.args.allowance (ready_past (ready_past c.requires (past_as (code Checked) (λ u. u) c.requires.closed c.requires.inside (sym c.peek-kind.ensures ∙ c.in-34.is)) c.bump-in-34.ensures) (past_as (code LParen) (λ u. u) c.requires.closed (ready_past c.requires (past_as (code Checked) (λ u. u) c.requires.closed c.requires.inside (sym c.peek-kind.ensures ∙ c.in-34.is)) c.bump-in-34.ensures).inside (next_of c.in-Next.is c.expect.ensures).0) (next_of c.in-Next.is c.expect.ensures).1) k) c.wrap.ensures
+primary-returns-in-Node-expr t c = λ src. let k = (took_of c.in-Node-expr.is (c.expr-in-Next.ensures src)) in wrap_met src c.args.tokens.now c.args.at.0 c.args.allowance c.requires.inside (at_checked src c.args.tokens.now c.args.at.0 c.args.allowance c.requires.inside (sym c.peek-kind.ensures ∙ c.in-34.is)) c.bump-in-34.ensures (past_as (code Checked) (λ u. u) c.requires.closed c.requires.inside (sym c.peek-kind.ensures ∙ c.in-34.is)) c.requires.closed (next_of c.in-Next.is c.expect.ensures) k (took_ready src pr.expr c.args.allowance (ready_past (ready_behind (code Checked) (λ u. u) c.requires (sym c.peek-kind.ensures ∙ c.in-34.is) c.bump-in-34.ensures) (past_as (code LParen) (λ u. u) c.requires.closed (ready_behind (code Checked) (λ u. u) c.requires (sym c.peek-kind.ensures ∙ c.in-34.is) c.bump-in-34.ensures).inside (next_of c.in-Next.is c.expect.ensures).0) (next_of c.in-Next.is c.expect.ensures).1) k) c.wrap.ensures
 
 pub primary-returns-in-Refused-expect-2 : goal.primary-returns-in-Refused-expect-2
 primary-returns-in-Refused-expect-2 t c = λ src. failed (wrap_unopened src c.args.tokens.now c.args.at.0 c.args.allowance c.requires.inside (at_wrapping src c.args.tokens.now c.args.at.0 c.args.allowance c.requires.inside (sym c.peek-kind.ensures ∙ c.in-35.is)) c.bump-in-35.ensures (past_as (code Wrapping) (λ u. u) c.requires.closed c.requires.inside (sym c.peek-kind.ensures ∙ c.in-35.is)) c.requires.closed (lacks_of c.in-Refused-expect-2.is c.expect-in-35.ensures))
@@ -435,7 +435,7 @@ pub primary-returns-in-Refused-expr-2 : goal.primary-returns-in-Refused-expr-2
 primary-returns-in-Refused-expr-2 t c = λ src. failed (wrap_bad src c.args.tokens.now c.args.at.0 c.args.allowance c.requires.inside (at_wrapping src c.args.tokens.now c.args.at.0 c.args.allowance c.requires.inside (sym c.peek-kind.ensures ∙ c.in-35.is)) c.bump-in-35.ensures (past_as (code Wrapping) (λ u. u) c.requires.closed c.requires.inside (sym c.peek-kind.ensures ∙ c.in-35.is)) c.requires.closed (next_of c.in-Next-expect.is c.expect-in-35.ensures) (failed_of c.in-Refused-expr-2.is (c.expr-in-Next-expect.ensures src)))
 
 pub primary-returns-in-Node-expr-2 : goal.primary-returns-in-Node-expr-2
-primary-returns-in-Node-expr-2 t c = λ src. let k = (took_of c.in-Node-expr-2.is (c.expr-in-Next-expect.ensures src)) in wrap_met src c.args.tokens.now c.args.at.0 c.args.allowance c.requires.inside (at_wrapping src c.args.tokens.now c.args.at.0 c.args.allowance c.requires.inside (sym c.peek-kind.ensures ∙ c.in-35.is)) c.bump-in-35.ensures (past_as (code Wrapping) (λ u. u) c.requires.closed c.requires.inside (sym c.peek-kind.ensures ∙ c.in-35.is)) c.requires.closed (next_of c.in-Next-expect.is c.expect-in-35.ensures) k (took_ready src pr.expr c.args.allowance (ready_past (ready_past c.requires (past_as (code Wrapping) (λ u. u) c.requires.closed c.requires.inside (sym c.peek-kind.ensures ∙ c.in-35.is)) c.bump-in-35.ensures) (past_as (code LParen) (λ u. u) c.requires.closed (ready_past c.requires (past_as (code Wrapping) (λ u. u) c.requires.closed c.requires.inside (sym c.peek-kind.ensures ∙ c.in-35.is)) c.bump-in-35.ensures).inside (next_of c.in-Next-expect.is c.expect-in-35.ensures).0) (next_of c.in-Next-expect.is c.expect-in-35.ensures).1) k) c.wrap-in-Node-expr-2.ensures
+primary-returns-in-Node-expr-2 t c = λ src. let k = (took_of c.in-Node-expr-2.is (c.expr-in-Next-expect.ensures src)) in wrap_met src c.args.tokens.now c.args.at.0 c.args.allowance c.requires.inside (at_wrapping src c.args.tokens.now c.args.at.0 c.args.allowance c.requires.inside (sym c.peek-kind.ensures ∙ c.in-35.is)) c.bump-in-35.ensures (past_as (code Wrapping) (λ u. u) c.requires.closed c.requires.inside (sym c.peek-kind.ensures ∙ c.in-35.is)) c.requires.closed (next_of c.in-Next-expect.is c.expect-in-35.ensures) k (took_ready src pr.expr c.args.allowance (ready_past (ready_behind (code Wrapping) (λ u. u) c.requires (sym c.peek-kind.ensures ∙ c.in-35.is) c.bump-in-35.ensures) (past_as (code LParen) (λ u. u) c.requires.closed (ready_behind (code Wrapping) (λ u. u) c.requires (sym c.peek-kind.ensures ∙ c.in-35.is) c.bump-in-35.ensures).inside (next_of c.in-Next-expect.is c.expect-in-35.ensures).0) (next_of c.in-Next-expect.is c.expect-in-35.ensures).1) k) c.wrap-in-Node-expr-2.ensures
 
 pub primary-returns-in_default : goal.primary-returns-in_default
 primary-returns-in_default t c = λ src. failed (primary_none src c.args.tokens.now c.args.at.0 c.args.allowance c.requires.inside c.requires.closed (no_leaf_at c.peek-kind.ensures c.leaf_kind-literal.ensures c.if-literal-ne-NO_NODE.false) (λ z. c.in_default.in_default-own.rest.0.0.1 (c.peek-kind.ensures ∙ z)) (λ z. c.in_default.in_default-own.rest.0.1 (c.peek-kind.ensures ∙ z)) (λ z. c.in_default.in_default-own.rest.1 (c.peek-kind.ensures ∙ z)) c.err.ensures)

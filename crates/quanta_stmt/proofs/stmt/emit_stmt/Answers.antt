@@ -4,43 +4,43 @@ use native.Mathlib.Omega.{arith}
 use Rattle.quanta_token.specs.TokenKind.{code, Emit, LParen, RParen}
 use Rattle.quanta_grammar.specs.Productions.{args}
 use Rattle.quanta_grammar.specs.Refine.{blank}
-use Rattle.quanta_cursor.proofs.Places.{past_as, ready_past, ready_small, all_ready, all_few}
+use Rattle.quanta_cursor.proofs.Places.{ready_small, all_ready, all_few, ready_behind}
 use Rattle.quanta_cursor.proofs.Meeting.{all_of, all_failed_of, failed}
 use Rattle.quanta_stmt.proofs.Keywords.{name_ready, next_ready, emit_unnamed, emit_unopened, emit_bad, emit_unclosed, emit_met}
 use Rattle.quanta_stmt.proofs.stmt.emit_stmt.Goals as goal
 
 pub expect_ident-requires : goal.expect_ident-requires
-expect_ident-requires c = (ready_past c.requires.0 (past_as (code Emit) (λ u. u) c.requires.0.closed c.requires.0.inside c.requires.1) c.bump.ensures)
+expect_ident-requires c = (ready_behind (code Emit) (λ u. u) c.requires.0 c.requires.1 c.bump.ensures)
 
 pub expect-requires : goal.expect-requires
-expect-requires c = ((name_ready (ready_past c.requires.0 (past_as (code Emit) (λ u. u) c.requires.0.closed c.requires.0.inside c.requires.1) c.bump.ensures) c.expect_ident.ensures c.in-Node.is).inside, c.requires.0.closed.few)
+expect-requires c = ((name_ready (ready_behind (code Emit) (λ u. u) c.requires.0 c.requires.1 c.bump.ensures) c.expect_ident.ensures c.in-Node.is).inside, c.requires.0.closed.few)
 
 pub call_args-requires : goal.call_args-requires
-call_args-requires c = (next_ready (code LParen) (λ u. u) (name_ready (ready_past c.requires.0 (past_as (code Emit) (λ u. u) c.requires.0.closed c.requires.0.inside c.requires.1) c.bump.ensures) c.expect_ident.ensures c.in-Node.is) c.in-Next.is c.expect.ensures)
+call_args-requires c = (next_ready (code LParen) (λ u. u) (name_ready (ready_behind (code Emit) (λ u. u) c.requires.0 c.requires.1 c.bump.ensures) c.expect_ident.ensures c.in-Node.is) c.in-Next.is c.expect.ensures)
 
 pub expect-requires-in-Nodes : goal.expect-requires-in-Nodes
-expect-requires-in-Nodes c = ((all_ready blank args c.args.allowance (next_ready (code LParen) (λ u. u) (name_ready (ready_past c.requires.0 (past_as (code Emit) (λ u. u) c.requires.0.closed c.requires.0.inside c.requires.1) c.bump.ensures) c.expect_ident.ensures c.in-Node.is) c.in-Next.is c.expect.ensures) (all_of c.in-Nodes.is (c.call_args.ensures blank))).inside, c.requires.0.closed.few)
+expect-requires-in-Nodes c = ((all_ready blank args c.args.allowance (next_ready (code LParen) (λ u. u) (name_ready (ready_behind (code Emit) (λ u. u) c.requires.0 c.requires.1 c.bump.ensures) c.expect_ident.ensures c.in-Node.is) c.in-Next.is c.expect.ensures) (all_of c.in-Nodes.is (c.call_args.ensures blank))).inside, c.requires.0.closed.few)
 
 pub peek_span-span-requires : goal.peek_span-span-requires
 peek_span-span-requires c = c.requires.0.inside
 
 pub overflow_add-count : goal.overflow_add-count
-overflow_add-count c = let z = all_few (all_of c.in-Nodes.is (c.call_args.ensures blank)) in let y = (all_ready blank args c.args.allowance (next_ready (code LParen) (λ u. u) (name_ready (ready_past c.requires.0 (past_as (code Emit) (λ u. u) c.requires.0.closed c.requires.0.inside c.requires.1) c.bump.ensures) c.expect_ident.ensures c.in-Node.is) c.in-Next.is c.expect.ensures) (all_of c.in-Nodes.is (c.call_args.ensures blank))) in omega (arith, y.fits, y.inside, y.closed.few)
+overflow_add-count c = let z = all_few (all_of c.in-Nodes.is (c.call_args.ensures blank)) in let y = (all_ready blank args c.args.allowance (next_ready (code LParen) (λ u. u) (name_ready (ready_behind (code Emit) (λ u. u) c.requires.0 c.requires.1 c.bump.ensures) c.expect_ident.ensures c.in-Node.is) c.in-Next.is c.expect.ensures) (all_of c.in-Nodes.is (c.call_args.ensures blank))) in omega (arith, y.fits, y.inside, y.closed.few)
 
 pub close_semi-requires : goal.close_semi-requires
-close_semi-requires c = (next_ready (code RParen) (λ u. u) (all_ready blank args c.args.allowance (next_ready (code LParen) (λ u. u) (name_ready (ready_past c.requires.0 (past_as (code Emit) (λ u. u) c.requires.0.closed c.requires.0.inside c.requires.1) c.bump.ensures) c.expect_ident.ensures c.in-Node.is) c.in-Next.is c.expect.ensures) (all_of c.in-Nodes.is (c.call_args.ensures blank))) c.in-Next-expect.is c.expect-in-Nodes.ensures, ready_small c.requires.0)
+close_semi-requires c = (next_ready (code RParen) (λ u. u) (all_ready blank args c.args.allowance (next_ready (code LParen) (λ u. u) (name_ready (ready_behind (code Emit) (λ u. u) c.requires.0 c.requires.1 c.bump.ensures) c.expect_ident.ensures c.in-Node.is) c.in-Next.is c.expect.ensures) (all_of c.in-Nodes.is (c.call_args.ensures blank))) c.in-Next-expect.is c.expect-in-Nodes.ensures, ready_small c.requires.0)
 
 pub returns-in-Refused : goal.returns-in-Refused
-returns-in-Refused c = λ src. failed (emit_unnamed src c.args.tokens.now c.args.at.0 c.args.allowance c.requires.0.inside c.bump.ensures (ready_past c.requires.0 (past_as (code Emit) (λ u. u) c.requires.0.closed c.requires.0.inside c.requires.1) c.bump.ensures) c.expect_ident.ensures c.requires.1 c.in-Refused.is)
+returns-in-Refused c = λ src. failed (emit_unnamed src c.args.tokens.now c.args.at.0 c.args.allowance c.requires.0.inside c.bump.ensures (ready_behind (code Emit) (λ u. u) c.requires.0 c.requires.1 c.bump.ensures) c.expect_ident.ensures c.requires.1 c.in-Refused.is)
 
 pub returns-in-Refused-expect : goal.returns-in-Refused-expect
-returns-in-Refused-expect c = λ src. failed (emit_unopened src c.args.tokens.now c.args.at.0 c.args.allowance c.requires.0.inside c.bump.ensures (ready_past c.requires.0 (past_as (code Emit) (λ u. u) c.requires.0.closed c.requires.0.inside c.requires.1) c.bump.ensures) c.expect_ident.ensures c.requires.1 c.in-Node.is c.expect.ensures c.in-Refused-expect.is)
+returns-in-Refused-expect c = λ src. failed (emit_unopened src c.args.tokens.now c.args.at.0 c.args.allowance c.requires.0.inside c.bump.ensures (ready_behind (code Emit) (λ u. u) c.requires.0 c.requires.1 c.bump.ensures) c.expect_ident.ensures c.requires.1 c.in-Node.is c.expect.ensures c.in-Refused-expect.is)
 
 pub returns-in-Refused-call_args : goal.returns-in-Refused-call_args
-returns-in-Refused-call_args c = λ src. failed (emit_bad src c.args.tokens.now c.args.at.0 c.args.allowance c.requires.0.inside c.bump.ensures (ready_past c.requires.0 (past_as (code Emit) (λ u. u) c.requires.0.closed c.requires.0.inside c.requires.1) c.bump.ensures) c.expect_ident.ensures c.requires.1 c.in-Node.is c.expect.ensures c.in-Next.is (all_failed_of c.in-Refused-call_args.is (c.call_args.ensures src)))
+returns-in-Refused-call_args c = λ src. failed (emit_bad src c.args.tokens.now c.args.at.0 c.args.allowance c.requires.0.inside c.bump.ensures (ready_behind (code Emit) (λ u. u) c.requires.0 c.requires.1 c.bump.ensures) c.expect_ident.ensures c.requires.1 c.in-Node.is c.expect.ensures c.in-Next.is (all_failed_of c.in-Refused-call_args.is (c.call_args.ensures src)))
 
 pub returns-in-Refused-expect-2 : goal.returns-in-Refused-expect-2
-returns-in-Refused-expect-2 c = λ src. failed (emit_unclosed src c.args.tokens.now c.args.at.0 c.args.allowance c.requires.0.inside c.bump.ensures (ready_past c.requires.0 (past_as (code Emit) (λ u. u) c.requires.0.closed c.requires.0.inside c.requires.1) c.bump.ensures) c.expect_ident.ensures c.requires.1 c.in-Node.is c.expect.ensures c.in-Next.is (all_of c.in-Nodes.is (c.call_args.ensures src)) (all_ready blank args c.args.allowance (next_ready (code LParen) (λ u. u) (name_ready (ready_past c.requires.0 (past_as (code Emit) (λ u. u) c.requires.0.closed c.requires.0.inside c.requires.1) c.bump.ensures) c.expect_ident.ensures c.in-Node.is) c.in-Next.is c.expect.ensures) (all_of c.in-Nodes.is (c.call_args.ensures blank))) c.expect-in-Nodes.ensures c.in-Refused-expect-2.is)
+returns-in-Refused-expect-2 c = λ src. failed (emit_unclosed src c.args.tokens.now c.args.at.0 c.args.allowance c.requires.0.inside c.bump.ensures (ready_behind (code Emit) (λ u. u) c.requires.0 c.requires.1 c.bump.ensures) c.expect_ident.ensures c.requires.1 c.in-Node.is c.expect.ensures c.in-Next.is (all_of c.in-Nodes.is (c.call_args.ensures src)) (all_ready blank args c.args.allowance (next_ready (code LParen) (λ u. u) (name_ready (ready_behind (code Emit) (λ u. u) c.requires.0 c.requires.1 c.bump.ensures) c.expect_ident.ensures c.in-Node.is) c.in-Next.is c.expect.ensures) (all_of c.in-Nodes.is (c.call_args.ensures blank))) c.expect-in-Nodes.ensures c.in-Refused-expect-2.is)
 
 pub returns-in-Next-expect : goal.returns-in-Next-expect
-returns-in-Next-expect c = λ src. emit_met src c.args.tokens.now c.args.at.0 c.args.allowance c.requires.0.inside c.bump.ensures (ready_past c.requires.0 (past_as (code Emit) (λ u. u) c.requires.0.closed c.requires.0.inside c.requires.1) c.bump.ensures) c.expect_ident.ensures c.requires.1 c.in-Node.is c.expect.ensures c.in-Next.is (all_of c.in-Nodes.is (c.call_args.ensures src)) (all_ready blank args c.args.allowance (next_ready (code LParen) (λ u. u) (name_ready (ready_past c.requires.0 (past_as (code Emit) (λ u. u) c.requires.0.closed c.requires.0.inside c.requires.1) c.bump.ensures) c.expect_ident.ensures c.in-Node.is) c.in-Next.is c.expect.ensures) (all_of c.in-Nodes.is (c.call_args.ensures blank))) c.expect-in-Nodes.ensures c.in-Next-expect.is _ c.peek_span-span.ensures c.close_semi.ensures
+returns-in-Next-expect c = λ src. emit_met src c.args.tokens.now c.args.at.0 c.args.allowance c.requires.0.inside c.bump.ensures (ready_behind (code Emit) (λ u. u) c.requires.0 c.requires.1 c.bump.ensures) c.expect_ident.ensures c.requires.1 c.in-Node.is c.expect.ensures c.in-Next.is (all_of c.in-Nodes.is (c.call_args.ensures src)) (all_ready blank args c.args.allowance (next_ready (code LParen) (λ u. u) (name_ready (ready_behind (code Emit) (λ u. u) c.requires.0 c.requires.1 c.bump.ensures) c.expect_ident.ensures c.in-Node.is) c.in-Next.is c.expect.ensures) (all_of c.in-Nodes.is (c.call_args.ensures blank))) c.expect-in-Nodes.ensures c.in-Next-expect.is _ c.peek_span-span.ensures c.close_semi.ensures
