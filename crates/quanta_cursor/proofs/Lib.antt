@@ -1,6 +1,7 @@
 pub mod Sets
 pub mod Places
 pub mod Nodes
+pub mod Exits
 pub mod Meeting
 pub mod Doing
 pub mod Lists

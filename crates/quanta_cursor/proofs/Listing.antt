@@ -1,5 +1,6 @@
 -- Lists in the midst of a production: one element and those behind commas, on top of what is left so far.
 -- Assumes nothing.
+use Rattle.std.specs.Prelude.{Err, Ok, Result}
 use mathlib.Core.Path.{◌≡◌, refl, ap, sym, subst, ◌∙◌}
 use mathlib.Core.Bool.{Bool, not}
 use mathlib.Core.List.{List, [], ◌∷◌}
@@ -19,8 +20,6 @@ use Rattle.quanta_grammar.proofs.Steps.{go}
 use Rattle.quanta_cursor.specs.declared.parser.Node.{Node}
 use Rattle.quanta_cursor.specs.declared.parser.Nodes.{Nodes}
 use Rattle.quanta_cursor.specs.declared.parser.Refusal.{Refusal}
-use Rattle.quanta_cursor.specs.declared.parser.Listed.{Listed}
-use Rattle.quanta_cursor.specs.declared.parser.Listed.TheVariants as listed
 use Rattle.quanta_cursor.specs.Tokens.{fine_at, from, Ready}
 use Rattle.quanta_cursor.specs.Answers.{Failed, Took}
 use Rattle.quanta_cursor.proofs.Places.{took_onward, took_ready}
@@ -31,12 +30,12 @@ use Rattle.quanta_cursor.specs.Lists.{TookOn, AnswersOn, ListsOn}
 use Rattle.quanta_grammar.specs.Refine.{Text}
 
 -- an answer that is taken apart
-module _ {o : Outcome} {x : Acc} {src : Text} {ws t : List ℕ} {n : ℕ} {r : Listed} {t' : List ℕ} where
-  pub on_of : {m : Nodes} → r ≡ listed.Nodes m → ListsOn o x src ws t n r t' → TookOn o x src ws t n m t'
-  on_of z m = subst (λ (r : Listed). AnswersOn o x src ws t n r t') z m.by
+module _ {o : Outcome} {x : Acc} {src : Text} {ws t : List ℕ} {n : ℕ} {r : Result Nodes Refusal} {t' : List ℕ} where
+  pub on_of : {m : Nodes} → r ≡ Ok m → ListsOn o x src ws t n r t' → TookOn o x src ws t n m t'
+  on_of z m = subst (λ (r : Result Nodes Refusal). AnswersOn o x src ws t n r t') z m.by
 
-  pub on_failed_of : {e : Refusal} → r ≡ listed.Refused e → ListsOn o x src ws t n r t' → Failed o e
-  on_failed_of z m = subst (λ (r : Listed). AnswersOn o x src ws t n r t') z m.by
+  pub on_failed_of : {e : Refusal} → r ≡ Err e → ListsOn o x src ws t n r t' → Failed o e
+  on_failed_of z m = subst (λ (r : Result Nodes Refusal). AnswersOn o x src ws t n r t') z m.by
 
 -- an element s and the rest l of the list, as two parts of a production
 module _ {o : Outcome} {src : Text} {ws : List ℕ} {t₀ : Tok} {ms : List Mark} {is : Items grammar} {a p : ℕ} {x : Acc} {y y' : Leaf} {r : Reach} {s l : Symbol}

@@ -2,9 +2,14 @@
 -- Assumes nothing.
 use Rattle.std.specs.Prelude.{◌≡◌, cond, List, [], ◌∷◌, ℕ, ◌+◌, ◌*◌, ◌/◌, ltb, length, set}
 use Rattle.grammar.specs.Records.{Rec, Row, records}
+use Rattle.quanta_cursor.specs.declared.parser.Record.{Record}
 
 abbrev pub rec_of : ℕ → ℕ → ℕ → ℕ → ℕ → ℕ → Rec
 rec_of kind flag own start stop count = record { kind = kind; flag = flag; own = own; start = start; stop = stop; count = count }
+
+-- what the code makes of a record's parts
+abbrev pub written : Record → Rec
+written r = rec_of r.kind r.flag r.own.0 r.span.start r.span.end r.children
 
 -- the record n, where there is room for it
 unfoldable pub put_rec : List ℕ → ℕ → Rec → List ℕ

@@ -8,7 +8,7 @@ ghost use Rattle.quanta_grammar.specs.Productions.{name, type_name};
 ghost use Rattle.quanta_grammar.specs.NodeKind.{node_code, name_node, int_node, str_node};
 ghost use Rattle.quanta_grammar.specs.RefusalKind.{refusal_code, expected_identifier, expected_integer, expected_import_name, expected_string};
 ghost use Rattle.quanta_cursor.specs.Tokens.{size, kind_at, Closed, Ready};
-ghost use Rattle.quanta_cursor.specs.Tree.{rec_of, put_rec};
+ghost use Rattle.quanta_cursor.specs.Tree.{put_rec, written};
 ghost use Rattle.quanta_cursor.specs.Cursor.{joined, span_at, err_at, Enters, Expects, ExpectsEof, leaf_rec, leaf_node, Words, Closes};
 
 use crate::{node, refusal};
@@ -41,6 +41,16 @@ pub struct Node {
     pub kind: u32,
 }
 
+// A tree record, but for its number: its kind, its flag, its own token, its span and how many children it has.
+#[derive(Clone, Copy)]
+pub struct Record {
+    pub kind: u32,
+    pub flag: u32,
+    pub own: TokenPos,
+    pub span: Span,
+    pub children: u32,
+}
+
 // Nodes side by side: the next token, the next record, and how many.
 #[derive(Clone, Copy)]
 pub struct Nodes {
@@ -55,34 +65,6 @@ pub struct Refusal {
     pub span: Span,
     pub wanted: u32,
     pub found: u32,
-}
-
-// The answer of a reader of one node.
-#[derive(Clone, Copy)]
-pub enum Parsed {
-    Node(Node),
-    Refused(Refusal),
-}
-
-// The answer of a reader of a list.
-#[derive(Clone, Copy)]
-pub enum Listed {
-    Nodes(Nodes),
-    Refused(Refusal),
-}
-
-// The position behind a token that was expected.
-#[derive(Clone, Copy)]
-pub enum Expected {
-    Next(TokenPos),
-    Refused(Refusal),
-}
-
-// What is left of the allowance.
-#[derive(Clone, Copy)]
-pub enum Entered {
-    Left(usize),
-    Refused(Refusal),
 }
 
 impl Span {
@@ -109,14 +91,14 @@ fn most(a: u32, b: u32) -> u32
 }
 
 // One level more: what is left of the allowance, or 20 at the token that is next.
-pub fn enter(tokens: &[u32], at: TokenPos, allowance: usize) -> Entered
+pub fn enter(tokens: &[u32], at: TokenPos, allowance: usize) -> Result<usize, Refusal>
     requires { at.0 < size tokens.now }
     ensures { Enters tokens.now at.0 allowance result }
 {
     if allowance >= 1 {
-        return Entered::Left(allowance - 1);
+        return Ok(allowance - 1);
     }
-    Entered::Refused(Refusal {
+    Err(Refusal {
         number: refusal::TOO_DEEP,
         span: peek_span(tokens, at),
         wanted: 0,
@@ -163,14 +145,14 @@ pub fn bump(at: TokenPos) -> TokenPos
     TokenPos(at.0 + 1)
 }
 
-pub fn expect(tokens: &[u32], at: TokenPos, want: u32) -> Expected
+pub fn expect(tokens: &[u32], at: TokenPos, want: u32) -> Result<TokenPos, Refusal>
     requires { (at.0 < size tokens.now) × (size tokens.now < 4294967296) }
     ensures { Expects tokens.now at.0 want result }
 {
     if peek(tokens, at) == want {
-        return Expected::Next(bump(at));
+        return Ok(bump(at));
     }
-    Expected::Refused(err(tokens, at, refusal::EXPECTED_TOKEN, want))
+    Err(err(tokens, at, refusal::EXPECTED_TOKEN, want))
 }
 
 // The next token's record: an identifier, a literal or a word that stands for itself.
@@ -179,63 +161,123 @@ pub fn leaf(tokens: &[u32], tree: &mut [u32], at: TokenPos, no: RecordNo, kind: 
     ensures { (result ≡ leaf_node tokens.now at.0 no.0 kind) × (tree.new ≡ put_rec tree.old no.0 (leaf_rec tokens.now at.0 kind)) }
 {
     let span = peek_span(tokens, at);
-    let next = put(tree, no, kind, 0, at, span, 0);
+    let rec = Record {
+        kind,
+        flag: 0,
+        own: at,
+        span,
+        children: 0,
+    };
     Node {
         at: bump(at),
-        no: next,
-        span: span,
-        kind: kind,
+        no: put(tree, no, rec),
+        span,
+        kind,
     }
 }
 
-pub fn expect_ident(tokens: &[u32], tree: &mut [u32], at: TokenPos, no: RecordNo) -> Parsed
+// A token of one kind, whose record is of the kind `node`; or a refusal of this number.
+fn expect_leaf(
+    tokens: &[u32],
+    tree: &mut [u32],
+    at: TokenPos,
+    no: RecordNo,
+    want: u32,
+    node: u32,
+    number: u32,
+) -> Result<Node, Refusal>
+    requires { Ready tokens.now at.0 no.0 }
+    ensures { Words (want ∷ []) node number tokens.now tree.old at.0 no.0 result tree.new }
+{
+    if peek(tokens, at) == want {
+        return Ok(leaf(tokens, tree, at, no, node));
+    }
+    Err(err(tokens, at, number, 0))
+}
+
+pub fn expect_ident(
+    tokens: &[u32],
+    tree: &mut [u32],
+    at: TokenPos,
+    no: RecordNo,
+) -> Result<Node, Refusal>
     requires { Ready tokens.now at.0 no.0 }
     ensures { Words name (node_code name_node) (refusal_code expected_identifier) tokens.now tree.old at.0 no.0 result tree.new }
 {
-    if peek(tokens, at) == token::IDENT {
-        return Parsed::Node(leaf(tokens, tree, at, no, node::NAME));
-    }
-    Parsed::Refused(err(tokens, at, refusal::EXPECTED_IDENTIFIER, 0))
+    expect_leaf(
+        tokens,
+        tree,
+        at,
+        no,
+        token::IDENT,
+        node::NAME,
+        refusal::EXPECTED_IDENTIFIER,
+    )
 }
 
-pub fn expect_int(tokens: &[u32], tree: &mut [u32], at: TokenPos, no: RecordNo) -> Parsed
+pub fn expect_int(
+    tokens: &[u32],
+    tree: &mut [u32],
+    at: TokenPos,
+    no: RecordNo,
+) -> Result<Node, Refusal>
     requires { Ready tokens.now at.0 no.0 }
     ensures { Words (codes (Int ∷ [])) (node_code int_node) (refusal_code expected_integer) tokens.now tree.old at.0 no.0 result tree.new }
 {
-    if peek(tokens, at) == token::INT {
-        return Parsed::Node(leaf(tokens, tree, at, no, node::INT));
-    }
-    Parsed::Refused(err(tokens, at, refusal::EXPECTED_INTEGER, 0))
+    expect_leaf(
+        tokens,
+        tree,
+        at,
+        no,
+        token::INT,
+        node::INT,
+        refusal::EXPECTED_INTEGER,
+    )
 }
 
-pub fn expect_import_name(tokens: &[u32], tree: &mut [u32], at: TokenPos, no: RecordNo) -> Parsed
+pub fn expect_str(
+    tokens: &[u32],
+    tree: &mut [u32],
+    at: TokenPos,
+    no: RecordNo,
+) -> Result<Node, Refusal>
+    requires { Ready tokens.now at.0 no.0 }
+    ensures { Words (codes (Str ∷ [])) (node_code str_node) (refusal_code expected_string) tokens.now tree.old at.0 no.0 result tree.new }
+{
+    expect_leaf(
+        tokens,
+        tree,
+        at,
+        no,
+        token::STR,
+        node::STR,
+        refusal::EXPECTED_STRING,
+    )
+}
+
+pub fn expect_import_name(
+    tokens: &[u32],
+    tree: &mut [u32],
+    at: TokenPos,
+    no: RecordNo,
+) -> Result<Node, Refusal>
     requires { Ready tokens.now at.0 no.0 }
     ensures { Words type_name (node_code name_node) (refusal_code expected_import_name) tokens.now tree.old at.0 no.0 result tree.new }
 {
     match peek(tokens, at) {
-        token::IDENT | token::QUORUM => Parsed::Node(leaf(tokens, tree, at, no, node::NAME)),
-        _ => Parsed::Refused(err(tokens, at, refusal::EXPECTED_IMPORT_NAME, 0)),
+        token::IDENT | token::QUORUM => Ok(leaf(tokens, tree, at, no, node::NAME)),
+        _ => Err(err(tokens, at, refusal::EXPECTED_IMPORT_NAME, 0)),
     }
 }
 
-pub fn expect_str(tokens: &[u32], tree: &mut [u32], at: TokenPos, no: RecordNo) -> Parsed
-    requires { Ready tokens.now at.0 no.0 }
-    ensures { Words (codes (Str ∷ [])) (node_code str_node) (refusal_code expected_string) tokens.now tree.old at.0 no.0 result tree.new }
-{
-    if peek(tokens, at) == token::STR {
-        return Parsed::Node(leaf(tokens, tree, at, no, node::STR));
-    }
-    Parsed::Refused(err(tokens, at, refusal::EXPECTED_STRING, 0))
-}
-
-pub fn expect_eof(tokens: &[u32], at: TokenPos) -> Expected
+pub fn expect_eof(tokens: &[u32], at: TokenPos) -> Result<TokenPos, Refusal>
     requires { at.0 < size tokens.now }
     ensures { ExpectsEof tokens.now at.0 result }
 {
     if peek(tokens, at) == token::EOF {
-        return Expected::Next(at);
+        return Ok(at);
     }
-    Expected::Refused(err(tokens, at, refusal::TOKEN_AFTER_THE_END, 0))
+    Err(err(tokens, at, refusal::TOKEN_AFTER_THE_END, 0))
 }
 
 // A refusal that marks the next token.
@@ -252,29 +294,21 @@ pub fn err(tokens: &[u32], at: TokenPos, number: u32, wanted: u32) -> Refusal
 }
 
 // Writes a record where there is room for it, and counts it.
-pub fn put(
-    tree: &mut [u32],
-    no: RecordNo,
-    kind: u32,
-    flag: u32,
-    own: TokenPos,
-    span: Span,
-    children: u32,
-) -> RecordNo
-    requires { (no.0 < 4294967296) × (own.0 < 4294967296) }
-    ensures { (result.0 ≡ no.0 + 1) × (tree.new ≡ put_rec tree.old no.0 (rec_of kind flag own.0 span.start span.end children)) }
+pub fn put(tree: &mut [u32], no: RecordNo, rec: Record) -> RecordNo
+    requires { (no.0 < 4294967296) × (rec.own.0 < 4294967296) }
+    ensures { (result.0 ≡ no.0 + 1) × (tree.new ≡ put_rec tree.old no.0 (written rec)) }
 {
     let n = no.0;
     if n >= tree.len() / 6 {
         return RecordNo(n + 1);
     }
     let i = n * 6;
-    tree[i] = kind;
-    tree[i + 1] = flag;
-    tree[i + 2] = own.0 as u32;
-    tree[i + 3] = span.start;
-    tree[i + 4] = span.end;
-    tree[i + 5] = children;
+    tree[i] = rec.kind;
+    tree[i + 1] = rec.flag;
+    tree[i + 2] = rec.own.0 as u32;
+    tree[i + 3] = rec.span.start;
+    tree[i + 4] = rec.span.end;
+    tree[i + 5] = rec.children;
     RecordNo(n + 1)
 }
 
@@ -285,27 +319,19 @@ pub fn close(
     want: u32,
     at: TokenPos,
     no: RecordNo,
-    kind: u32,
-    flag: u32,
-    own: TokenPos,
-    span: Span,
-    children: u32,
-) -> Parsed
-    requires { Ready tokens.now at.0 no.0 × (own.0 < 4294967296) }
-    ensures { Closes tokens.now tree.old want at.0 no.0 kind flag own.0 span children result tree.new }
+    rec: Record,
+) -> Result<Node, Refusal>
+    requires { Ready tokens.now at.0 no.0 × (rec.own.0 < 4294967296) }
+    ensures { Closes tokens.now tree.old want at.0 no.0 rec.kind rec.flag rec.own.0 rec.span rec.children result tree.new }
 {
-    match expect(tokens, at, want) {
-        Expected::Refused(e) => Parsed::Refused(e),
-        Expected::Next(next) => {
-            let whole = span.join(peek_span(tokens, at));
-            Parsed::Node(Node {
-                at: next,
-                no: put(tree, no, kind, flag, own, whole, children),
-                span: whole,
-                kind: kind,
-            })
-        }
-    }
+    let next = expect(tokens, at, want)?;
+    let span = rec.span.join(peek_span(tokens, at));
+    Ok(Node {
+        at: next,
+        no: put(tree, no, Record { span, ..rec }),
+        span,
+        kind: rec.kind,
+    })
 }
 
 // The `;` at the end of a phrase.
@@ -314,25 +340,10 @@ pub fn close_semi(
     tree: &mut [u32],
     at: TokenPos,
     no: RecordNo,
-    kind: u32,
-    flag: u32,
-    own: TokenPos,
-    span: Span,
-    children: u32,
-) -> Parsed
-    requires { Ready tokens.now at.0 no.0 × (own.0 < 4294967296) }
-    ensures { Closes tokens.now tree.old (code Semi) at.0 no.0 kind flag own.0 span children result tree.new }
+    rec: Record,
+) -> Result<Node, Refusal>
+    requires { Ready tokens.now at.0 no.0 × (rec.own.0 < 4294967296) }
+    ensures { Closes tokens.now tree.old (code Semi) at.0 no.0 rec.kind rec.flag rec.own.0 rec.span rec.children result tree.new }
 {
-    close(
-        tokens,
-        tree,
-        token::SEMI,
-        at,
-        no,
-        kind,
-        flag,
-        own,
-        span,
-        children,
-    )
+    close(tokens, tree, token::SEMI, at, no, rec)
 }
