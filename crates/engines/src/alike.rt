@@ -1,7 +1,7 @@
 // Whether two answers are the same in every field, and two trees in every word.
 ghost use Rattle.std.specs.Prelude.{◌≡◌, true};
 
-use quanta_cursor::parser::{Listed, Node, Nodes, Parsed, Refusal, Span};
+use quanta_cursor::parser::{Node, Nodes, Refusal, Span};
 
 fn same_span(a: Span, b: Span) -> bool
     ensures { result ≡ true → a ≡ b }
@@ -58,32 +58,32 @@ fn same_nodes(a: Nodes, b: Nodes) -> bool
     a.count == b.count
 }
 
-pub fn same_parsed(a: Parsed, b: Parsed) -> bool
+pub fn same_parsed(a: Result<Node, Refusal>, b: Result<Node, Refusal>) -> bool
     ensures { result ≡ true → a ≡ b }
 {
     match a {
-        Parsed::Node(x) => match b {
-            Parsed::Node(y) => same_node(x, y),
-            Parsed::Refused(_) => false,
+        Ok(x) => match b {
+            Ok(y) => same_node(x, y),
+            Err(_) => false,
         },
-        Parsed::Refused(x) => match b {
-            Parsed::Node(_) => false,
-            Parsed::Refused(y) => same_refusal(x, y),
+        Err(x) => match b {
+            Ok(_) => false,
+            Err(y) => same_refusal(x, y),
         },
     }
 }
 
-pub fn same_listed(a: Listed, b: Listed) -> bool
+pub fn same_listed(a: Result<Nodes, Refusal>, b: Result<Nodes, Refusal>) -> bool
     ensures { result ≡ true → a ≡ b }
 {
     match a {
-        Listed::Nodes(x) => match b {
-            Listed::Nodes(y) => same_nodes(x, y),
-            Listed::Refused(_) => false,
+        Ok(x) => match b {
+            Ok(y) => same_nodes(x, y),
+            Err(_) => false,
         },
-        Listed::Refused(x) => match b {
-            Listed::Nodes(_) => false,
-            Listed::Refused(y) => same_refusal(x, y),
+        Err(x) => match b {
+            Ok(_) => false,
+            Err(y) => same_refusal(x, y),
         },
     }
 }

@@ -8,7 +8,7 @@ use crate::closed::is_closed;
 use crate::made;
 use crate::made::Case;
 use crate::report::count;
-use quanta_cursor::parser::{Parsed, RecordNo, TokenPos};
+use quanta_cursor::parser::{Node, RecordNo, Refusal, TokenPos};
 
 // How many lists.
 pub const LISTS: u32 = 100000;
@@ -23,10 +23,10 @@ enum Came {
     Different,
 }
 
-fn number(answer: Parsed) -> u32 {
+fn number(answer: Result<Node, Refusal>) -> u32 {
     match answer {
-        Parsed::Node(_) => 0,
-        Parsed::Refused(e) => e.number,
+        Ok(_) => 0,
+        Err(e) => e.number,
     }
 }
 

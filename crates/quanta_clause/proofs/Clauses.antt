@@ -1,5 +1,6 @@
 -- The clauses one by one: each way through their readers.
 -- Assumes nothing.
+use Rattle.std.specs.Prelude.{Err, Ok, Result}
 use mathlib.Core.Path.{◌≡◌, refl, ap, sym, subst, ◌∙◌}
 use mathlib.Core.Bool.{Bool, true, false, not}
 use mathlib.Core.List.{List, [], ◌∷◌}
@@ -28,10 +29,6 @@ use Rattle.quanta_cursor.specs.declared.parser.Span.{Span}
 use Rattle.quanta_cursor.specs.declared.parser.Node.{Node}
 use Rattle.quanta_cursor.specs.declared.parser.Nodes.{Nodes}
 use Rattle.quanta_cursor.specs.declared.parser.Refusal.{Refusal}
-use Rattle.quanta_cursor.specs.declared.parser.Parsed.{Parsed}
-use Rattle.quanta_cursor.specs.declared.parser.Parsed.TheVariants as parsed
-use Rattle.quanta_cursor.specs.declared.parser.Expected.{Expected}
-use Rattle.quanta_cursor.specs.declared.parser.Expected.TheVariants as expected
 use Rattle.quanta_cursor.specs.Tokens.{size, kind_at, from, fine_at, tok_at, Ready}
 use Rattle.quanta_cursor.specs.Tree.{rec_of, put_rec}
 use Rattle.quanta_cursor.specs.Answers.{single, Failed, Took, Meets}
@@ -46,8 +43,6 @@ use Rattle.quanta_cursor.proofs.Lists.{glue_none}
 use Rattle.quanta_cursor.proofs.WordLists.{names_law, first_bad_lem}
 use Rattle.quanta_cursor.proofs.Under.{Under, passes, listed_in, unlisted, closed_by}
 use Rattle.quanta_clause.specs.declared.decl.AfterTarget.{AfterTarget}
-use Rattle.quanta_clause.specs.declared.decl.Targeted.{Targeted}
-use Rattle.quanta_clause.specs.declared.decl.Targeted.TheVariants as targeted
 use Rattle.quanta_clause.specs.Units.{is_unit, is_duration}
 use Rattle.quanta_clause.specs.Clauses.{of_names, of_name, of_expr, kind_in, clause_kind, First, FirstName, Ends, EndsAfter, target_of, flag_if, TookTarget, AnswersTarget, Targets}
 use Rattle.quanta_clause.proofs.Units.{after_kind, after_kind_lem}
@@ -132,11 +127,11 @@ module _ (src : Text) (ws : List ℕ) (a : ℕ) {i n p : ℕ} (g : Ready ws i n)
   pub name_past : Ready ws p n
   name_past = ready_past g (past_in of_name (λ u. u) g.closed g.inside w) q
 
-  module _ {t t₁ : List ℕ} {r : Parsed} (v : Words name (node_code name_node) (refusal_code expected_identifier) ws t p n r t₁) where
-    pub name_bad : {e : Refusal} → r ≡ parsed.Refused e → Failed (reads clause a (from src ws i) fresh) e
+  module _ {t t₁ : List ℕ} {r : Result Node Refusal} (v : Words name (node_code name_node) (refusal_code expected_identifier) ws t p n r t₁) where
+    pub name_bad : {e : Refusal} → r ≡ Err e → Failed (reads clause a (from src ws i) fresh) e
     name_bad z = let d = no_word_of z v in lack (name_opening src ws i a g.inside q w).doing tt g.closed name_past.inside d.0 tt d.1
 
-    module _ {m : Node} (z : r ≡ parsed.Node m) where
+    module _ {m : Node} (z : r ≡ Ok m) where
       pub name_ready : Ready ws m.at.0 m.no.0
       name_ready = let d = word_of z v in subst (λ (m : Node). Ready ws m.at.0 m.no.0) (sym d.1) (ready_word name_past (past_in name (λ u. u) g.closed name_past.inside d.0) refl refl)
 
@@ -173,19 +168,19 @@ module _ (src : Text) (ws : List ℕ) (a : ℕ) {i n p : ℕ} (g : Ready ws i n)
       refl k.laid x.words refl k.inside)
 
 -- A CLAUSE OF A LIST OF NAMES: the `(` and the first name
-pub first_ready : {ws : List ℕ} {i n : ℕ} {y : Expected} {p : TokenPos} → Expects ws i (code LParen) y → y ≡ expected.Next p → Ready ws i n → Ready ws p.0 n
+pub first_ready : {ws : List ℕ} {i n : ℕ} {y : Result TokenPos Refusal} {p : TokenPos} → Expects ws i (code LParen) y → y ≡ Ok p → Ready ws i n → Ready ws p.0 n
 first_ready v z g = let w = next_of z v in ready_behind (code LParen) (λ u. u) g w.0 w.1
 
-module _ {ws t : List ℕ} {i n : ℕ} {y : Expected} (v : Expects ws i (code LParen) y) where
-  pub first_unopened : {e : Refusal} {t' : List ℕ} → y ≡ expected.Refused e → FirstName ws t i n (parsed.Refused e) t'
+module _ {ws t : List ℕ} {i n : ℕ} {y : Result TokenPos Refusal} (v : Expects ws i (code LParen) y) where
+  pub first_unopened : {e : Refusal} {t' : List ℕ} → y ≡ Err e → FirstName ws t i n (Err e) t'
   first_unopened z = record { by = inr (lacks_of z v) }
 
-  module _ {p : TokenPos} (z : y ≡ expected.Next p) where
-    first_by : (r : Parsed) {t' : List ℕ} → Words name (node_code name_node) (refusal_code expected_identifier) ws t (i + 1) n r t' → First ws t i n r t'
-    first_by (parsed.Node m) x = ((next_of z v).0, x)
-    first_by (parsed.Refused e) x = inl ((next_of z v).0, x)
+  module _ {p : TokenPos} (z : y ≡ Ok p) where
+    first_by : (r : Result Node Refusal) {t' : List ℕ} → Words name (node_code name_node) (refusal_code expected_identifier) ws t (i + 1) n r t' → First ws t i n r t'
+    first_by (Ok m) x = ((next_of z v).0, x)
+    first_by (Err e) x = inl ((next_of z v).0, x)
 
-    pub first_inside : {r : Parsed} {t' : List ℕ} → Words name (node_code name_node) (refusal_code expected_identifier) ws t p.0 n r t' → FirstName ws t i n r t'
+    pub first_inside : {r : Result Node Refusal} {t' : List ℕ} → Words name (node_code name_node) (refusal_code expected_identifier) ws t p.0 n r t' → FirstName ws t i n r t'
     first_inside {r} {t'} x = record { by = first_by r (subst (λ (j : ℕ). Words name (node_code name_node) (refusal_code expected_identifier) ws t j n r t') (next_of z v).1 x) }
 
 module _ (src : Text) (ws : List ℕ) (a : ℕ) {i n p : ℕ} (g : Ready ws i n) (w : T (has of_names (kind_at ws i))) (q : p ≡ i + 1) where
@@ -203,29 +198,29 @@ module _ (src : Text) (ws : List ℕ) (a : ℕ) {i n p : ℕ} (g : Ready ws i n)
         → Under (reads clause a (from src ws i) fresh) src ws (tok_at src ws i) (mark word pass apart [] ∷ mark nothing fold apart [] ∷ mark nothing pass widens (make (clause_kind (kind_at ws i)) ∷ []) ∷ []) (one name ∷ sub more_names ∷ one (code RParen ∷ []) ∷ []) a (p + 1) behind t n t n
     inside e = passes begun tt (λ u. u) (is_one (code LParen) e) refl
 
-    first_lacks : {e : Refusal} {t₁ : List ℕ} → First ws t p n (parsed.Refused e) t₁ → Failed (reads clause a (from src ws i) fresh) e
+    first_lacks : {e : Refusal} {t₁ : List ℕ} → First ws t p n (Err e) t₁ → Failed (reads clause a (from src ws i) fresh) e
     first_lacks f =
         ⊎_elim (λ z. unlisted (inside z.0) (first_bad_lem names_law (inside z.0).ready z.1 refl src (tok_at src ws i) a behind))
         (λ z. lack begun.doing tt g.closed names_past.inside (not_one (code LParen) z.0) tt z.1) f
 
-    module _ {t₁ : List ℕ} {y : Parsed} (v : FirstName ws t p n y t₁) where
-      pub names_none : {e : Refusal} → y ≡ parsed.Refused e → Failed (reads clause a (from src ws i) fresh) e
-      names_none z = first_lacks (subst (λ (y : Parsed). First ws t p n y t₁) z v.by)
+    module _ {t₁ : List ℕ} {y : Result Node Refusal} (v : FirstName ws t p n y t₁) where
+      pub names_none : {e : Refusal} → y ≡ Err e → Failed (reads clause a (from src ws i) fresh) e
+      names_none z = first_lacks (subst (λ (y : Result Node Refusal). First ws t p n y t₁) z v.by)
 
-      module _ {m : Node} (z : y ≡ parsed.Node m) where
-        first : First ws t p n (parsed.Node m) t₁
-        first = subst (λ (y : Parsed). First ws t p n y t₁) z v.by
+      module _ {m : Node} (z : y ≡ Ok m) where
+        first : First ws t p n (Ok m) t₁
+        first = subst (λ (y : Result Node Refusal). First ws t p n y t₁) z v.by
 
         pub inside_ready : Ready ws (p + 1) n
         inside_ready = (inside first.0).ready
 
-        pub inside_word : Words name (node_code name_node) (refusal_code expected_identifier) ws t (p + 1) n (parsed.Node m) t₁
+        pub inside_word : Words name (node_code name_node) (refusal_code expected_identifier) ws t (p + 1) n (Ok m) t₁
         inside_word = first.1
 
         pub names_bad : {e : Refusal} → Failed (words name more_names (tok_at src ws i) a (from src ws (p + 1)) behind) e → Failed (reads clause a (from src ws i) fresh) e
         names_bad f = unlisted (inside first.0) f
 
-        pub names_met : {k : Nodes} {t₂ : List ℕ} {r : Parsed} {t₃ : List ℕ} → TookOn (words name more_names (tok_at src ws i) a (from src ws (p + 1)) behind) behind src ws t n k t₂
+        pub names_met : {k : Nodes} {t₂ : List ℕ} {r : Result Node Refusal} {t₃ : List ℕ} → TookOn (words name more_names (tok_at src ws i) a (from src ws (p + 1)) behind) behind src ws t n k t₂
             → Closes ws t₂ (code RParen) k.at.0 k.no.0 (clause_kind (kind_at ws i)) 0 i (span_at ws i) k.count r t₃ → Meets (reads clause a (from src ws i) fresh) src ws t n r t₃
         names_met {k} x c =
             let N = clause_kind (kind_at ws i) in
@@ -379,7 +374,7 @@ pub value_took : {o : Outcome} {src : Text} {ws t : List ℕ} {n : ℕ} {m : Nod
 value_took {m = m} k = record { all = record { acc = single k.top k.below m.span; gave = k.gave; many = refl; laid = k.laid; inside = k.inside }; reach = refl; flagged = refl }
 
 -- .. as the code told it
-pub target_is : {src : Text} {ws : List ℕ} {i n a : ℕ} {t : List ℕ} {r : Targeted} {t' : List ℕ} {b : Bool} (c : Bool) → b ≡ is_duration src ws i → b ≡ c → AnswersTarget c src ws i n a t r t' → Targets src ws i n a t r t'
+pub target_is : {src : Text} {ws : List ℕ} {i n a : ℕ} {t : List ℕ} {r : Result AfterTarget Refusal} {t' : List ℕ} {b : Bool} (c : Bool) → b ≡ is_duration src ws i → b ≡ c → AnswersTarget c src ws i n a t r t' → Targets src ws i n a t r t'
 target_is {src} {ws} {i} {n} {a} {t} {r} {t'} c e f x = record { by = subst (λ (b : Bool). AnswersTarget b src ws i n a t r t') (sym f ∙ e) x }
 
 pub target_true : (src : Text) (ws : List ℕ) (i : ℕ) {b : Bool} → b ≡ is_duration src ws i → b ≡ true
@@ -388,18 +383,18 @@ target_true src ws i e f = subst T (sym f ∙ e) tt
 
 pub duration_target : {src : Text} {ws : List ℕ} {i n : ℕ} → Ready ws i n → {b : Bool} → b ≡ is_duration src ws i → b ≡ true → {m : Node} → m ≡ leaf_node ws i n (node_code int_node) → {u : Node} → u ≡ leaf_node ws m.at.0 m.no.0 (node_code name_node)
     → {a : ℕ} {t t₁ t₂ : List ℕ} {s : Span} {flag : ℕ} → t₁ ≡ put_rec t n (leaf_rec ws i (node_code int_node)) → t₂ ≡ put_rec t₁ m.no.0 (leaf_rec ws m.at.0 (node_code name_node)) → s ≡ joined m.span u.span → flag ≡ flag_code has_duration
-    → Targets src ws i n a t (targeted.Target (record { at = u.at; no = u.no; span = s; flag = flag; count = 2 })) t₂
+    → Targets src ws i n a t (Ok (record { at = u.at; no = u.no; span = s; flag = flag; count = 2 })) t₂
 duration_target {src} {ws} {i} g e f x y {a} h k l w = target_is true e f (duration_took src ws g (target_true src ws i e f) x y a h k l w)
 
-module _ {src : Text} {ws : List ℕ} {i n a : ℕ} {t : List ℕ} {y : Targeted} {t' : List ℕ} (v : Targets src ws i n a t y t') where
-  pub target_of_lem : {r : AfterTarget} → y ≡ targeted.Target r → TookTarget (reads (target_of (is_duration src ws i)) a (from src ws i) fresh) src ws t n (flag_if (is_duration src ws i)) r t'
-  target_of_lem z = subst (λ (y : Targeted). AnswersTarget (is_duration src ws i) src ws i n a t y t') z v.by
+module _ {src : Text} {ws : List ℕ} {i n a : ℕ} {t : List ℕ} {y : Result AfterTarget Refusal} {t' : List ℕ} (v : Targets src ws i n a t y t') where
+  pub target_of_lem : {r : AfterTarget} → y ≡ Ok r → TookTarget (reads (target_of (is_duration src ws i)) a (from src ws i) fresh) src ws t n (flag_if (is_duration src ws i)) r t'
+  target_of_lem z = subst (λ (y : Result AfterTarget Refusal). AnswersTarget (is_duration src ws i) src ws i n a t y t') z v.by
 
-  pub untargeted : {e : Refusal} → y ≡ targeted.Refused e → Failed (reads (target_of (is_duration src ws i)) a (from src ws i) fresh) e
-  untargeted z = subst (λ (y : Targeted). AnswersTarget (is_duration src ws i) src ws i n a t y t') z v.by
+  pub untargeted : {e : Refusal} → y ≡ Err e → Failed (reads (target_of (is_duration src ws i)) a (from src ws i) fresh) e
+  untargeted z = subst (λ (y : Result AfterTarget Refusal). AnswersTarget (is_duration src ws i) src ws i n a t y t') z v.by
 
 -- WHAT IS WRITTEN, with the kind and the span that the code computed
-pub closes_kind : {ws t : List ℕ} {want p q k k' flag own : ℕ} (s : Span) {c : ℕ} {r : Parsed} {t' : List ℕ} → k ≡ k' → Closes ws t want p q k flag own s c r t' → Closes ws t want p q k' flag own s c r t'
+pub closes_kind : {ws t : List ℕ} {want p q k k' flag own : ℕ} (s : Span) {c : ℕ} {r : Result Node Refusal} {t' : List ℕ} → k ≡ k' → Closes ws t want p q k flag own s c r t' → Closes ws t want p q k' flag own s c r t'
 closes_kind {ws} {t} {want} {p} {q} {flag = flag} {own} s {c} {r} {t'} e x = subst (λ (k : ℕ). Closes ws t want p q k flag own s c r t') e x
 
 module _ {ws t : List ℕ} {i : ℕ} {q : RecordNo} {s₀ s : Span} {t' : List ℕ} where

@@ -1,5 +1,6 @@
 -- The list of clauses: what its next token tells, and one turn of its loop.
 -- Assumes nothing.
+use Rattle.std.specs.Prelude.{Result}
 use mathlib.Core.Path.{◌≡◌, refl, sym, subst}
 use mathlib.Core.Bool.{Bool, true, false}
 use mathlib.Core.List.{List}
@@ -17,7 +18,6 @@ use Rattle.quanta_grammar.specs.Reading.{reads}
 use Rattle.quanta_grammar.specs.Refine.{Text}
 use Rattle.quanta_cursor.specs.declared.parser.TokenPos.{TokenPos}
 use Rattle.quanta_cursor.specs.declared.parser.RecordNo.{RecordNo}
-use Rattle.quanta_cursor.specs.declared.parser.Parsed.{Parsed}
 use Rattle.quanta_cursor.specs.Tokens.{kind_at, from, fine_at}
 use Rattle.quanta_cursor.specs.Answers.{TookAll, Meets}
 use Rattle.quanta_cursor.proofs.Sets.{fine_in, fine_out, is_in, not_in}
@@ -25,6 +25,8 @@ use Rattle.quanta_cursor.proofs.Lists.{roll_in, run_stop, rolled, clauses_run}
 use Rattle.quanta_cursor.proofs.Listing.{Rolling}
 use Rattle.quanta_clause.specs.Clauses.{of_names, of_name, of_expr}
 use Rattle.quanta_clause.proofs.Clauses.{has_two, has_three}
+use Rattle.quanta_cursor.specs.declared.parser.Node.{Node}
+use Rattle.quanta_cursor.specs.declared.parser.Refusal.{Refusal}
 
 -- WHAT THE NEXT TOKEN TELLS, by the numbers that the code compared
 at_or : {A : Type 0} (c k : ℕ) → c ≤ k → (k ≡ c → A) → (c + 1 ≤ k → A) → A
@@ -79,14 +81,14 @@ module _ (src : Text) (ws : List ℕ) (i : ℕ) where
       ))
 
 -- ONE TURN: the clause at i was read, and its answer is r
-pub record Turn (src : Text) (ws : List ℕ) (a i n : ℕ) (t : List ℕ) (r : Parsed) (t' : List ℕ) : Type 0 where
+pub record Turn (src : Text) (ws : List ℕ) (a i n : ℕ) (t : List ℕ) (r : Result Node Refusal) (t' : List ℕ) : Type 0 where
   pub goes : T (has clause_start (fine_at src ws i))
   pub met : Meets (reads clause a (from src ws i) fresh) src ws t n r t'
   pub long : length t' ≡ length t
 
-pub turned : {src : Text} {ws : List ℕ} {a i n : ℕ} {t : List ℕ} {r r' : Parsed} {t' t'' : List ℕ} → T (has clause_start (fine_at src ws i)) → r' ≡ r → t'' ≡ t' → Meets (reads clause a (from src ws i) fresh) src ws t n r t' → length t' ≡ length t → Turn src ws a i n t r' t''
+pub turned : {src : Text} {ws : List ℕ} {a i n : ℕ} {t : List ℕ} {r r' : Result Node Refusal} {t' t'' : List ℕ} → T (has clause_start (fine_at src ws i)) → r' ≡ r → t'' ≡ t' → Meets (reads clause a (from src ws i) fresh) src ws t n r t' → length t' ≡ length t → Turn src ws a i n t r' t''
 turned {src} {ws} {a} {i} {n} {t} {r} {r'} {t'} {t''} g e f m l =
-    subst (λ (r : Parsed). Turn src ws a i n t r t'') (sym e) (subst (λ (t' : List ℕ). Turn src ws a i n t r t') (sym f) (record { goes = g; met = m; long = l }))
+    subst (λ (r : Result Node Refusal). Turn src ws a i n t r t'') (sym e) (subst (λ (t' : List ℕ). Turn src ws a i n t r t') (sym f) (record { goes = g; met = m; long = l }))
 
 -- THE END of the list
 pub clauses_end : {src : Text} {ws : List ℕ} {a i n : ℕ} {t : List ℕ} {p : TokenPos} {q : RecordNo} {c : ℕ} {tree : List ℕ} → Rolling clauses src ws a i n 0 t p.0 q.0 c tree → (T (has clause_start (fine_at src ws p.0)) → ⊥)

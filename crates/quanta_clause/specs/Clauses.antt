@@ -1,6 +1,6 @@
 -- What the readers of the single clauses answer and write.
 -- Assumes nothing.
-use Rattle.std.specs.Prelude.{◌≡◌, Bool, true, false, List, [], ◌∷◌, ◌⊎◌, ℕ, ◌+◌, eqb}
+use Rattle.std.specs.Prelude.{◌≡◌, Bool, true, false, List, [], ◌∷◌, ◌⊎◌, ℕ, ◌+◌, eqb, Err, Ok, Result}
 use Rattle.grammar.specs.Records.{pick_n, span, fresh}
 use Rattle.grammar.specs.Fused.{Outcome}
 use Rattle.quanta_token.specs.TokenKind.{TokenKind, code, codes, Writes, Reads, Conserves, Mints, Burns, Limits, Denies, LParen}
@@ -10,16 +10,13 @@ use Rattle.quanta_grammar.specs.Productions.{Symbol, name, expr, duration}
 use Rattle.quanta_grammar.specs.Reading.{reads}
 use Rattle.quanta_grammar.specs.Refine.{Text}
 use Rattle.quanta_cursor.specs.declared.parser.Node.{Node}
-use Rattle.quanta_cursor.specs.declared.parser.Parsed.{Parsed}
-use Rattle.quanta_cursor.specs.declared.parser.Parsed.TheVariants as parsed
 use Rattle.quanta_cursor.specs.Tokens.{kind_at, from}
 use Rattle.quanta_cursor.specs.Tree.{rec_of, put_rec}
 use Rattle.quanta_cursor.specs.Answers.{Failed, TookAll}
 use Rattle.quanta_cursor.specs.Cursor.{joined, span_at, err_at, Words}
 use Rattle.quanta_clause.specs.declared.decl.AfterTarget.{AfterTarget}
-use Rattle.quanta_clause.specs.declared.decl.Targeted.{Targeted}
-use Rattle.quanta_clause.specs.declared.decl.Targeted.TheVariants as targeted
 use Rattle.quanta_clause.specs.Units.{is_duration}
+use Rattle.quanta_cursor.specs.declared.parser.Refusal.{Refusal}
 
 -- the keywords of a clause with a list of names, with one name, and with one expression
 abbrev pub of_names : List ℕ
@@ -43,13 +40,13 @@ abbrev pub clause_kind : ℕ → ℕ
 clause_kind = kind_in clause_kinds
 
 -- `(` stands at i and a name behind it; or one of them is missing
-abbrev pub First : List ℕ → List ℕ → ℕ → ℕ → Parsed → List ℕ → Type 0
-First ws t i n (parsed.Node r) t' = (kind_at ws i ≡ code LParen) × Words name (node_code name_node) (refusal_code expected_identifier) ws t (i + 1) n (parsed.Node r) t'
-First ws t i n (parsed.Refused e) t' =
-    ((kind_at ws i ≡ code LParen) × Words name (node_code name_node) (refusal_code expected_identifier) ws t (i + 1) n (parsed.Refused e) t')
+abbrev pub First : List ℕ → List ℕ → ℕ → ℕ → Result Node Refusal → List ℕ → Type 0
+First ws t i n (Ok r) t' = (kind_at ws i ≡ code LParen) × Words name (node_code name_node) (refusal_code expected_identifier) ws t (i + 1) n (Ok r) t'
+First ws t i n (Err e) t' =
+    ((kind_at ws i ≡ code LParen) × Words name (node_code name_node) (refusal_code expected_identifier) ws t (i + 1) n (Err e) t')
     ⊎ ((kind_at ws i ≡ code LParen → ⊥) × (e ≡ err_at ws i (refusal_code expected_token) (code LParen)))
 
-pub record FirstName (ws t : List ℕ) (i n : ℕ) (r : Parsed) (t' : List ℕ) : Type 0 where
+pub record FirstName (ws t : List ℕ) (i n : ℕ) (r : Result Node Refusal) (t' : List ℕ) : Type 0 where
   pub by : First ws t i n r t'
 
 -- the record of the clause whose keyword stands at i, over its one part
@@ -77,9 +74,9 @@ pub record TookTarget (o : Outcome) (src : Text) (ws t : List ℕ) (n flag : ℕ
   pub reach : all.acc.reach ≡ span r.span.start r.span.end
   pub flagged : r.flag ≡ flag
 
-abbrev pub AnswersTarget : Bool → Text → List ℕ → ℕ → ℕ → ℕ → List ℕ → Targeted → List ℕ → Type 0
-AnswersTarget b src ws i n a t (targeted.Target r) t' = TookTarget (reads (target_of b) a (from src ws i) fresh) src ws t n (flag_if b) r t'
-AnswersTarget b src ws i n a t (targeted.Refused e) t' = Failed (reads (target_of b) a (from src ws i) fresh) e
+abbrev pub AnswersTarget : Bool → Text → List ℕ → ℕ → ℕ → ℕ → List ℕ → Result AfterTarget Refusal → List ℕ → Type 0
+AnswersTarget b src ws i n a t (Ok r) t' = TookTarget (reads (target_of b) a (from src ws i) fresh) src ws t n (flag_if b) r t'
+AnswersTarget b src ws i n a t (Err e) t' = Failed (reads (target_of b) a (from src ws i) fresh) e
 
-pub record Targets (src : Text) (ws : List ℕ) (i n a : ℕ) (t : List ℕ) (r : Targeted) (t' : List ℕ) : Type 0 where
+pub record Targets (src : Text) (ws : List ℕ) (i n a : ℕ) (t : List ℕ) (r : Result AfterTarget Refusal) (t' : List ℕ) : Type 0 where
   pub by : AnswersTarget (is_duration src ws i) src ws i n a t r t'

@@ -1,5 +1,6 @@
 -- ONE CONTRACT LEAVES NO CHOICE: two answers under it are the same, and so are the words of the tree.
 -- Assumes nothing.
+use Rattle.std.specs.Prelude.{Err, Ok, Result}
 use mathlib.Core.Path.{◌≡◌, ap, sym, ◌∙◌}
 use mathlib.Core.List.{List}
 use Prim.Native.Nat.{ℕ, ◌+◌, ◌<◌}
@@ -12,10 +13,6 @@ use Rattle.quanta_grammar.specs.Refine.{Text}
 use Rattle.quanta_cursor.specs.declared.parser.Node.{Node}
 use Rattle.quanta_cursor.specs.declared.parser.Nodes.{Nodes}
 use Rattle.quanta_cursor.specs.declared.parser.Refusal.{Refusal}
-use Rattle.quanta_cursor.specs.declared.parser.Parsed.{Parsed}
-use Rattle.quanta_cursor.specs.declared.parser.Parsed.TheVariants as parsed
-use Rattle.quanta_cursor.specs.declared.parser.Listed.{Listed}
-use Rattle.quanta_cursor.specs.declared.parser.Listed.TheVariants as listed
 use Rattle.quanta_cursor.specs.Tokens.{size, from}
 use Rattle.quanta_cursor.specs.Tree.{Laid, lay}
 use Rattle.quanta_cursor.specs.Answers.{single, shown, Failed, Took, TookAll, Answers, AnswersAll, Meets, MeetsAll}
@@ -102,33 +99,33 @@ neither x y =
     omega arith
 
 module _ (o : Outcome) (src : Text) (ws t : List ℕ) (n : ℕ) (t₁ t₂ : List ℕ) where
-  agree_by : (r r' : Parsed) → Answers o src ws t n r t₁ → Answers o src ws t n r' t₂ → Agree r t₁ r' t₂
-  agree_by (parsed.Node m) (parsed.Node m') x y =
+  agree_by : (r r' : Result Node Refusal) → Answers o src ws t n r t₁ → Answers o src ws t n r' t₂ → Agree r t₁ r' t₂
+  agree_by (Ok m) (Ok m') x y =
       let z = both_took x y in
-      record { answer = ap (λ (m : Node). parsed.Node m) z.0; words = λ k e. z.1 }
-  agree_by (parsed.Node m) (parsed.Refused e) x y = absurd (neither x.gave y)
-  agree_by (parsed.Refused e) (parsed.Node m) x y = absurd (neither y.gave x)
-  agree_by (parsed.Refused e) (parsed.Refused e') x y =
+      record { answer = ap (λ (m : Node). Ok m) z.0; words = λ k e. z.1 }
+  agree_by (Ok m) (Err e) x y = absurd (neither x.gave y)
+  agree_by (Err e) (Ok m) x y = absurd (neither y.gave x)
+  agree_by (Err e) (Err e') x y =
       record {
-        answer = ap (λ (e : Refusal). parsed.Refused e) (both_failed x y);
+        answer = ap (λ (e : Refusal). Err e) (both_failed x y);
         words = λ k z. let w : ◌≡◌ {A = ℕ} 0 1 = cc in absurd (omega arith);
       }
 
-  agree_all_by : (r r' : Listed) → AnswersAll o src ws t n r t₁ → AnswersAll o src ws t n r' t₂ → AgreeAll r t₁ r' t₂
-  agree_all_by (listed.Nodes m) (listed.Nodes m') x y =
+  agree_all_by : (r r' : Result Nodes Refusal) → AnswersAll o src ws t n r t₁ → AnswersAll o src ws t n r' t₂ → AgreeAll r t₁ r' t₂
+  agree_all_by (Ok m) (Ok m') x y =
       let z = both_all x y in
-      record { answer = ap (λ (m : Nodes). listed.Nodes m) z.0; words = λ k e. z.1 }
-  agree_all_by (listed.Nodes m) (listed.Refused e) x y = absurd (neither x.gave y)
-  agree_all_by (listed.Refused e) (listed.Nodes m) x y = absurd (neither y.gave x)
-  agree_all_by (listed.Refused e) (listed.Refused e') x y =
+      record { answer = ap (λ (m : Nodes). Ok m) z.0; words = λ k e. z.1 }
+  agree_all_by (Ok m) (Err e) x y = absurd (neither x.gave y)
+  agree_all_by (Err e) (Ok m) x y = absurd (neither y.gave x)
+  agree_all_by (Err e) (Err e') x y =
       record {
-        answer = ap (λ (e : Refusal). listed.Refused e) (both_failed x y);
+        answer = ap (λ (e : Refusal). Err e) (both_failed x y);
         words = λ k z. let w : ◌≡◌ {A = ℕ} 0 1 = cc in absurd (omega arith);
       }
 
 module _ {o : Outcome} {src : Text} {ws t : List ℕ} {n : ℕ} {t₁ t₂ : List ℕ} where
-  pub agree : {r r' : Parsed} → Meets o src ws t n r t₁ → Meets o src ws t n r' t₂ → Agree r t₁ r' t₂
+  pub agree : {r r' : Result Node Refusal} → Meets o src ws t n r t₁ → Meets o src ws t n r' t₂ → Agree r t₁ r' t₂
   agree {r} {r'} x y = agree_by o src ws t n t₁ t₂ r r' x.by y.by
 
-  pub agree_all : {r r' : Listed} → MeetsAll o src ws t n r t₁ → MeetsAll o src ws t n r' t₂ → AgreeAll r t₁ r' t₂
+  pub agree_all : {r r' : Result Nodes Refusal} → MeetsAll o src ws t n r t₁ → MeetsAll o src ws t n r' t₂ → AgreeAll r t₁ r' t₂
   agree_all {r} {r'} x y = agree_all_by o src ws t n t₁ t₂ r r' x.by y.by

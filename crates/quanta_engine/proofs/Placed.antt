@@ -1,5 +1,6 @@
 -- WHERE A TURN BEGINS: what a place knows in each phase; and what a call's answer makes of it.
 -- Assumes nothing.
+use Rattle.std.specs.Prelude.{Err, Ok, Result}
 use mathlib.Core.Path.{◌≡◌}
 use mathlib.Core.List.{List}
 use Prim.Native.Nat.{ℕ, ◌<◌, ◌≤◌}
@@ -7,8 +8,6 @@ use native.Mathlib.Omega.{arith}
 use Rattle.grammar.specs.Records.{Acc}
 use Rattle.quanta_token.specs.TokenKind.{code, Dot, LParen, RParen}
 use Rattle.quanta_grammar.specs.NodeKind.{node_code, call_node}
-use Rattle.quanta_cursor.specs.declared.parser.Parsed.{Parsed}
-use Rattle.quanta_cursor.specs.declared.parser.Parsed.TheVariants as parsed
 use Rattle.quanta_cursor.specs.Tokens.{kind_at}
 use Rattle.quanta_cursor.specs.Answers.{single}
 use Rattle.quanta_cursor.specs.Cursor.{Closes}
@@ -22,6 +21,8 @@ use Rattle.quanta_engine.specs.Frames.{many, Phase, operands, afterwards, linkin
 use Rattle.quanta_engine.specs.Frames.{Standing}
 use Rattle.quanta_engine.specs.Turns.{Place, stack, standing, Quiet}
 use Rattle.quanta_engine.proofs.Ranking.{rank_some}
+use Rattle.quanta_cursor.specs.declared.parser.Node.{Node}
+use Rattle.quanta_cursor.specs.declared.parser.Refusal.{Refusal}
 
 -- what the phase knows of the next token: it begins no suffix; it is no operator of a greater rank
 abbrev pub Past : List ℕ → Phase → List Frame → ℕ → Type 0
@@ -71,12 +72,12 @@ abbrev pub node_at : {ws : List ℕ} {p : Phase} {j : Task ws} {F : List Frame} 
 node_at {s = s} g = single g.top g.below s.node.span
 
 -- the turn that a call's answer makes where the opening is closed
-abbrev pub shutting : ℕ → Parsed → Turn
-shutting d (parsed.Refused u) = turn.Refused u
-shutting d (parsed.Node m) = turn.Shut (standing m d)
+abbrev pub shutting : ℕ → Result Node Refusal → Turn
+shutting d (Err u) = turn.Refused u
+shutting d (Ok m) = turn.Shut (standing m d)
 
 -- what `close` makes of the `)` at the state's token, with the numbers of the opening e
-abbrev pub ClosesAt : List ℕ → Opening → State → List ℕ → Parsed → List ℕ → Type 0
+abbrev pub ClosesAt : List ℕ → Opening → State → List ℕ → Result Node Refusal → List ℕ → Type 0
 ClosesAt ws e s tree y tree' =
     Closes ws tree (code RParen) (here s) (many s) e.kind e.flag e.own.0 e.span e.count y tree'
 

@@ -1,6 +1,6 @@
 -- The nodes of an expression: what the functions between the readers make of those that were read.
 -- Assumes nothing.
-use Rattle.std.specs.Prelude.{◌≡◌, List, ℕ, ◌+◌, min, max, T}
+use Rattle.std.specs.Prelude.{◌≡◌, List, ℕ, ◌+◌, min, max, T, Err, Ok, Result}
 use Rattle.grammar.specs.Grammar.{has}
 use Rattle.grammar.specs.Records.{Rec}
 use Rattle.quanta_token.specs.TokenKind.{code, RParen}
@@ -9,11 +9,10 @@ use Rattle.quanta_grammar.specs.RefusalKind.{refusal_code, expected_token, expec
 use Rattle.quanta_grammar.specs.Productions.{name}
 use Rattle.quanta_cursor.specs.declared.parser.Span.{Span}
 use Rattle.quanta_cursor.specs.declared.parser.Node.{Node}
-use Rattle.quanta_cursor.specs.declared.parser.Parsed.{Parsed}
-use Rattle.quanta_cursor.specs.declared.parser.Parsed.TheVariants as parsed
 use Rattle.quanta_cursor.specs.Tokens.{kind_at}
 use Rattle.quanta_cursor.specs.Tree.{rec_of, put_rec}
 use Rattle.quanta_cursor.specs.Cursor.{joined, span_at, err_at, leaf_rec}
+use Rattle.quanta_cursor.specs.declared.parser.Refusal.{Refusal}
 
 -- a record over the spans s and s'
 abbrev pub over : ℕ → ℕ → ℕ → Span → Span → ℕ → Rec
@@ -37,19 +36,19 @@ prefix_rec ws i flag m = over (node_code unary_node) flag i (span_at ws i) m.spa
 abbrev pub accessed : List ℕ → Node → Node
 accessed ws l = record { at = record { 0 = l.at.0 + 1 + 1 }; no = record { 0 = l.no.0 + 1 + 1 }; span = joined l.span (span_at ws (l.at.0 + 1)); kind = node_code access_node }
 
-abbrev pub Access : List ℕ → List ℕ → Node → Parsed → List ℕ → Type 0
-Access ws t l (parsed.Node r) t' =
+abbrev pub Access : List ℕ → List ℕ → Node → Result Node Refusal → List ℕ → Type 0
+Access ws t l (Ok r) t' =
     T (has name (kind_at ws (l.at.0 + 1))) × (r ≡ accessed ws l)
     × (t' ≡ put_rec (put_rec t l.no.0 (leaf_rec ws (l.at.0 + 1) (node_code name_node))) (l.no.0 + 1) (over (node_code access_node) 0 l.at.0 l.span (span_at ws (l.at.0 + 1)) 2))
-Access ws t l (parsed.Refused e) t' = (T (has name (kind_at ws (l.at.0 + 1))) → ⊥) × (e ≡ err_at ws (l.at.0 + 1) (refusal_code expected_identifier) 0)
+Access ws t l (Err e) t' = (T (has name (kind_at ws (l.at.0 + 1))) → ⊥) × (e ≡ err_at ws (l.at.0 + 1) (refusal_code expected_identifier) 0)
 
-pub record Accesses (ws t : List ℕ) (l : Node) (r : Parsed) (t' : List ℕ) : Type 0 where
+pub record Accesses (ws t : List ℕ) (l : Node) (r : Result Node Refusal) (t' : List ℕ) : Type 0 where
   pub by : Access ws t l r t'
 
 -- the `)` behind an expression in parentheses; or another token
-abbrev pub Paren : List ℕ → Node → Parsed → Type 0
-Paren ws m (parsed.Node r) = (kind_at ws m.at.0 ≡ code RParen) × (r ≡ record { at = record { 0 = m.at.0 + 1 }; no = m.no; span = m.span; kind = m.kind })
-Paren ws m (parsed.Refused e) = (kind_at ws m.at.0 ≡ code RParen → ⊥) × (e ≡ err_at ws m.at.0 (refusal_code expected_token) (code RParen))
+abbrev pub Paren : List ℕ → Node → Result Node Refusal → Type 0
+Paren ws m (Ok r) = (kind_at ws m.at.0 ≡ code RParen) × (r ≡ record { at = record { 0 = m.at.0 + 1 }; no = m.no; span = m.span; kind = m.kind })
+Paren ws m (Err e) = (kind_at ws m.at.0 ≡ code RParen → ⊥) × (e ≡ err_at ws m.at.0 (refusal_code expected_token) (code RParen))
 
-pub record Parens (ws : List ℕ) (m : Node) (r : Parsed) : Type 0 where
+pub record Parens (ws : List ℕ) (m : Node) (r : Result Node Refusal) : Type 0 where
   pub by : Paren ws m r

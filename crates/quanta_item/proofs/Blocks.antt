@@ -1,5 +1,6 @@
 -- A block: each way through its reader, and a declaration that ends with it.
 -- Assumes nothing.
+use Rattle.std.specs.Prelude.{Err, Ok, Result}
 use mathlib.Core.Path.{◌≡◌, refl, ap, sym, subst, ◌∙◌}
 use mathlib.Core.List.{List, [], ◌∷◌}
 use Prim.Native.Nat.{ℕ, ◌+◌, ◌≤◌}
@@ -18,10 +19,6 @@ use Rattle.quanta_cursor.specs.declared.parser.Span.{Span}
 use Rattle.quanta_cursor.specs.declared.parser.Node.{Node}
 use Rattle.quanta_cursor.specs.declared.parser.Nodes.{Nodes}
 use Rattle.quanta_cursor.specs.declared.parser.Refusal.{Refusal}
-use Rattle.quanta_cursor.specs.declared.parser.Listed.{Listed}
-use Rattle.quanta_cursor.specs.declared.parser.Listed.TheVariants as listed
-use Rattle.quanta_cursor.specs.declared.parser.Expected.{Expected}
-use Rattle.quanta_cursor.specs.declared.parser.Expected.TheVariants as expected
 use Rattle.quanta_cursor.specs.Tokens.{fine_at, from, tok_at, Ready}
 use Rattle.quanta_cursor.specs.Tree.{put_rec, rec_of}
 use Rattle.quanta_cursor.specs.Answers.{Failed, Took, TookAll, Lists}
@@ -34,24 +31,22 @@ use Rattle.quanta_cursor.proofs.Nodes.{node_of, node_is}
 use Rattle.quanta_cursor.proofs.Doing.{bring, fails, over, ends}
 use Rattle.quanta_cursor.proofs.Under.{Under, starts, expects, unexpected, unphrased, alled}
 use Rattle.quanta_item.specs.declared.decl.Body.{Body}
-use Rattle.quanta_item.specs.declared.decl.Blocked.{Blocked}
-use Rattle.quanta_item.specs.declared.decl.Blocked.TheVariants as blocked
 use Rattle.quanta_item.specs.Blocks.{TookBlock, AnswersBlock, MeetsBlock, decl_span, decl_rec, decl_node}
 use Rattle.quanta_grammar.specs.Refine.{Text}
 
 -- an answer that is made, and one that is taken apart
 module _ {o : Outcome} {src : Text} {ws t : List ℕ} {n : ℕ} {t' : List ℕ} where
-  pub took_block : {r : Body} → TookBlock o src ws t n r t' → MeetsBlock o src ws t n (blocked.Body r) t'
+  pub took_block : {r : Body} → TookBlock o src ws t n r t' → MeetsBlock o src ws t n (Ok r) t'
   took_block k = record { by = k }
 
-  pub failed_block : {e : Refusal} → Failed o e → MeetsBlock o src ws t n (blocked.Refused e) t'
+  pub failed_block : {e : Refusal} → Failed o e → MeetsBlock o src ws t n (Err e) t'
   failed_block f = record { by = f }
 
-  pub block_of : {r : Blocked} {m : Body} → r ≡ blocked.Body m → MeetsBlock o src ws t n r t' → TookBlock o src ws t n m t'
-  block_of z m = subst (λ (r : Blocked). AnswersBlock o src ws t n r t') z m.by
+  pub block_of : {r : Result Body Refusal} {m : Body} → r ≡ Ok m → MeetsBlock o src ws t n r t' → TookBlock o src ws t n m t'
+  block_of z m = subst (λ (r : Result Body Refusal). AnswersBlock o src ws t n r t') z m.by
 
-  pub block_failed_of : {r : Blocked} {e : Refusal} → r ≡ blocked.Refused e → MeetsBlock o src ws t n r t' → Failed o e
-  block_failed_of z m = subst (λ (r : Blocked). AnswersBlock o src ws t n r t') z m.by
+  pub block_failed_of : {r : Result Body Refusal} {e : Refusal} → r ≡ Err e → MeetsBlock o src ws t n r t' → Failed o e
+  block_failed_of z m = subst (λ (r : Result Body Refusal). AnswersBlock o src ws t n r t') z m.by
 
 -- its records stand side by side, as a list's
 abbrev list_of : Body → Nodes
@@ -70,25 +65,25 @@ pub block_count : {o : Outcome} {src : Text} {ws t : List ℕ} {n : ℕ} {m : Bo
 block_count row k = let x = k.many in omega (arith, count_glue row k.acc.row)
 
 -- THE BLOCK: a brace, statements, a brace
-module _ (src : Text) (ws : List ℕ) (a : ℕ) {i n : ℕ} (g : Ready ws i n) (t : List ℕ) {y : Expected} (v : Expects ws i (code LBrace) y) where
+module _ (src : Text) (ws : List ℕ) (a : ℕ) {i n : ℕ} (g : Ready ws i n) (t : List ℕ) {y : Result TokenPos Refusal} (v : Expects ws i (code LBrace) y) where
   begun : Under (reads block a (from src ws i) fresh) src ws (tok_at src ws i) (outs.marks block braces) (grammar.parts block braces) a i fresh t n t n
   begun = starts src ws block braces a g refl refl
 
-  pub block_unopened : {u : Refusal} → y ≡ expected.Refused u → Failed (reads block a (from src ws i) fresh) u
+  pub block_unopened : {u : Refusal} → y ≡ Err u → Failed (reads block a (from src ws i) fresh) u
   block_unopened z = unexpected (code LBrace) begun tt tt (λ i. refl) z v
 
-  module _ {o : TokenPos} (z : y ≡ expected.Next o) where
+  module _ {o : TokenPos} (z : y ≡ Ok o) where
     opened : Under (reads block a (from src ws i) fresh) src ws (tok_at src ws i) (drop 1 (outs.marks block braces)) (drop 1 (grammar.parts block braces)) a o.0 (leave outs nothing widens (tok_at src ws i) fresh) t n t n
     opened = expects (code LBrace) begun tt (λ u. u) z v
 
     pub opened_ready : Ready ws o.0 n
     opened_ready = opened.ready
 
-    module _ {y₁ : Listed} {t₁ : List ℕ} (v₁ : Lists src stmts ws o.0 n a t y₁ t₁) where
-      pub block_bad : {u : Refusal} → y₁ ≡ listed.Refused u → Failed (reads block a (from src ws i) fresh) u
+    module _ {y₁ : Result Nodes Refusal} {t₁ : List ℕ} (v₁ : Lists src stmts ws o.0 n a t y₁ t₁) where
+      pub block_bad : {u : Refusal} → y₁ ≡ Err u → Failed (reads block a (from src ws i) fresh) u
       block_bad z = unphrased opened (all_failed_of z v₁)
 
-      module _ {m : Nodes} (z₁ : y₁ ≡ listed.Nodes m) where
+      module _ {m : Nodes} (z₁ : y₁ ≡ Ok m) where
         k : TookAll (reads stmts a (from src ws o.0) fresh) src ws t n m t₁
         k = all_of z₁ v₁
 
@@ -98,11 +93,11 @@ module _ (src : Text) (ws : List ℕ) (a : ℕ) {i n : ℕ} (g : Ready ws i n) (
         pub filled_ready : Ready ws m.at.0 m.no.0
         filled_ready = filled.ready
 
-        module _ {y₂ : Expected} (v₂ : Expects ws m.at.0 (code RBrace) y₂) where
-          pub block_unclosed : {u : Refusal} → y₂ ≡ expected.Refused u → Failed (reads block a (from src ws i) fresh) u
+        module _ {y₂ : Result TokenPos Refusal} (v₂ : Expects ws m.at.0 (code RBrace) y₂) where
+          pub block_unclosed : {u : Refusal} → y₂ ≡ Err u → Failed (reads block a (from src ws i) fresh) u
           block_unclosed z = unexpected (code RBrace) filled tt tt (λ i. refl) z v₂
 
-          pub block_took : {p : TokenPos} {r : Body} → y₂ ≡ expected.Next p → r.at.0 ≡ p.0 → r.no.0 ≡ m.no.0 → r.count ≡ m.count → r.span ≡ joined (span_at ws i) (span_at ws m.at.0)
+          pub block_took : {p : TokenPos} {r : Body} → y₂ ≡ Ok p → r.at.0 ≡ p.0 → r.no.0 ≡ m.no.0 → r.count ≡ m.count → r.span ≡ joined (span_at ws i) (span_at ws m.at.0)
               → TookBlock (reads block a (from src ws i) fresh) src ws t n r t₁
           block_took {p} {r} z e f h s =
               let d = expects (code RBrace) filled tt (λ u. u) z v₂ in

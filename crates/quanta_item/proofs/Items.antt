@@ -1,5 +1,6 @@
 -- A contract's items: each way through their readers.
 -- Assumes nothing.
+use Rattle.std.specs.Prelude.{Err, Ok, Result}
 use mathlib.Core.Path.{◌≡◌, refl, ap, ◌∙◌}
 use mathlib.Core.List.{List, [], ◌∷◌}
 use mathlib.Core.Bool.{not}
@@ -24,12 +25,6 @@ use Rattle.quanta_cursor.specs.declared.parser.TokenPos.{TokenPos}
 use Rattle.quanta_cursor.specs.declared.parser.Node.{Node}
 use Rattle.quanta_cursor.specs.declared.parser.Nodes.{Nodes}
 use Rattle.quanta_cursor.specs.declared.parser.Refusal.{Refusal}
-use Rattle.quanta_cursor.specs.declared.parser.Parsed.{Parsed}
-use Rattle.quanta_cursor.specs.declared.parser.Parsed.TheVariants as parsed
-use Rattle.quanta_cursor.specs.declared.parser.Listed.{Listed}
-use Rattle.quanta_cursor.specs.declared.parser.Listed.TheVariants as listed
-use Rattle.quanta_cursor.specs.declared.parser.Expected.{Expected}
-use Rattle.quanta_cursor.specs.declared.parser.Expected.TheVariants as expected
 use Rattle.quanta_cursor.specs.Tokens.{kind_at, start_at, stop_at, fine_at, from, tok_at, Ready}
 use Rattle.quanta_cursor.specs.Tree.{rec_of}
 use Rattle.quanta_cursor.specs.Answers.{single, Failed, TookAll, Meets, Reads, Lists}
@@ -98,12 +93,12 @@ module _ (src : Text) (ws : List ℕ) (a : ℕ) {i n p : ℕ} (g : Ready ws i n)
 abbrev name_row : List ℕ → ℕ → Row
 name_row ws p = put none (leaf_rec ws p (node_code name_node)) none
 
-module _ {ms : List Mark} {is : Items grammar} {src : Text} {ws : List ℕ} {i a p : ℕ} {t : List ℕ} {n : ℕ} (d : Decl (mark word pass apart [] ∷ ms) (one name ∷ is) src ws i a p none t n t n) {y : Parsed} {t₁ : List ℕ}
+module _ {ms : List Mark} {is : Items grammar} {src : Text} {ws : List ℕ} {i a p : ℕ} {t : List ℕ} {n : ℕ} (d : Decl (mark word pass apart [] ∷ ms) (one name ∷ is) src ws i a p none t n t n) {y : Result Node Refusal} {t₁ : List ℕ}
     (v : Words name (node_code name_node) (refusal_code expected_identifier) ws t p n y t₁) where
-  pub unnamed : {u : Refusal} → y ≡ parsed.Refused u → Failed (reads item a (from src ws i) fresh) u
+  pub unnamed : {u : Refusal} → y ≡ Err u → Failed (reads item a (from src ws i) fresh) u
   unnamed z = unworded name (node_code name_node) d tt v tt (λ i. refl) z
 
-  module _ {m : Node} (z : y ≡ parsed.Node m) where
+  module _ {m : Node} (z : y ≡ Ok m) where
     pub named : Decl ms is src ws i a m.at.0 (name_row ws p) t n t₁ m.no.0
     named = worded_in name (node_code name_node) d tt v (λ u. u) tt z
 
@@ -111,28 +106,28 @@ module _ {ms : List Mark} {is : Items grammar} {src : Text} {ws : List ℕ} {i a
     name_few = let w = ap (λ (m : Node). m.no.0) (word_of z v).1 in omega arith
 
 -- .. an opening brace
-module _ {ms : List Mark} {is : Items grammar} {src : Text} {ws : List ℕ} {i a p : ℕ} {t : List ℕ} {n : ℕ} (d : Decl (mark nothing pass apart [] ∷ ms) (one (code LBrace ∷ []) ∷ is) src ws i a p none t n t n) {y : Expected} (v : Expects ws p (code LBrace) y) where
-  pub unopened : {u : Refusal} → y ≡ expected.Refused u → Failed (reads item a (from src ws i) fresh) u
+module _ {ms : List Mark} {is : Items grammar} {src : Text} {ws : List ℕ} {i a p : ℕ} {t : List ℕ} {n : ℕ} (d : Decl (mark nothing pass apart [] ∷ ms) (one (code LBrace ∷ []) ∷ is) src ws i a p none t n t n) {y : Result TokenPos Refusal} (v : Expects ws p (code LBrace) y) where
+  pub unopened : {u : Refusal} → y ≡ Err u → Failed (reads item a (from src ws i) fresh) u
   unopened z = unexpected (code LBrace) d tt tt (λ i. refl) z v
 
-  pub opened : {o : TokenPos} → y ≡ expected.Next o → Decl ms is src ws i a o.0 none t n t n
+  pub opened : {o : TokenPos} → y ≡ Ok o → Decl ms is src ws i a o.0 none t n t n
   opened z = expects (code LBrace) d tt (λ u. u) z v
 
 -- .. an expression
-module _ {ms : List Mark} {is : Items grammar} {src : Text} {ws : List ℕ} {i a p : ℕ} {t : List ℕ} {n : ℕ} (d : Decl (mark nothing pass apart [] ∷ ms) (sub expr ∷ is) src ws i a p none t n t n) {y : Parsed} {t₁ : List ℕ} (v : Reads src expr ws p n a t y t₁) where
-  pub unsaid : {u : Refusal} → y ≡ parsed.Refused u → Failed (reads item a (from src ws i) fresh) u
+module _ {ms : List Mark} {is : Items grammar} {src : Text} {ws : List ℕ} {i a p : ℕ} {t : List ℕ} {n : ℕ} (d : Decl (mark nothing pass apart [] ∷ ms) (sub expr ∷ is) src ws i a p none t n t n) {y : Result Node Refusal} {t₁ : List ℕ} (v : Reads src expr ws p n a t y t₁) where
+  pub unsaid : {u : Refusal} → y ≡ Err u → Failed (reads item a (from src ws i) fresh) u
   unsaid z = unphrased d (failed_of z v)
 
-  pub said : {m : Node} (z : y ≡ parsed.Node m) → Decl ms is src ws i a m.at.0 (put none (took_of z v).top (took_of z v).below) t n t₁ m.no.0
+  pub said : {m : Node} (z : y ≡ Ok m) → Decl ms is src ws i a m.at.0 (put none (took_of z v).top (took_of z v).below) t n t₁ m.no.0
   said z = phrased d tt (took_of z v)
 
 -- .. a list
 module _ {ms : List Mark} {is : Items grammar} {src : Text} {ws : List ℕ} {i a p : ℕ} {row : Row} {t : List ℕ} {n : ℕ} {tree : List ℕ} {q : ℕ} (l : Symbol) (h : T (not (targets.minds l)))
-    (d : Decl (mark nothing pass apart [] ∷ ms) (sub l ∷ is) src ws i a p row t n tree q) {y : Listed} {tree₁ : List ℕ} (v : Lists src l ws p q a tree y tree₁) where
-  pub unlisted : {u : Refusal} → y ≡ listed.Refused u → Failed (reads item a (from src ws i) fresh) u
+    (d : Decl (mark nothing pass apart [] ∷ ms) (sub l ∷ is) src ws i a p row t n tree q) {y : Result Nodes Refusal} {tree₁ : List ℕ} (v : Lists src l ws p q a tree y tree₁) where
+  pub unlisted : {u : Refusal} → y ≡ Err u → Failed (reads item a (from src ws i) fresh) u
   unlisted z = unphrased d (all_failed_of z v)
 
-  module _ {m : Nodes} (z : y ≡ listed.Nodes m) where
+  module _ {m : Nodes} (z : y ≡ Ok m) where
     pub listed_in : Decl ms is src ws i a m.at.0 (glue row (all_of z v).acc.row) t n tree₁ m.no.0
     listed_in = alled d h (all_of z v)
 
@@ -140,7 +135,7 @@ module _ {ms : List Mark} {is : Items grammar} {src : Text} {ws : List ℕ} {i a
     listed_count = let x = (all_of z v).many in omega (arith, count_glue row (all_of z v).acc.row)
 
 -- THE CLOSING TOKEN, and the item's record
-pub shut : {src : Text} {ws : List ℕ} {i a p : ℕ} {row : Row} {t : List ℕ} {n : ℕ} {tree : List ℕ} {q c : ℕ} {r : Parsed} {t' : List ℕ} (kind want : ℕ) → flag_of outs.flags kind (fine_at src ws i) + 0 ≡ 0 → T (coarse (want ∷ [])) → (T (eqb want (code Eof)) → ⊥)
+pub shut : {src : Text} {ws : List ℕ} {i a p : ℕ} {row : Row} {t : List ℕ} {n : ℕ} {tree : List ℕ} {q c : ℕ} {r : Result Node Refusal} {t' : List ℕ} (kind want : ℕ) → flag_of outs.flags kind (fine_at src ws i) + 0 ≡ 0 → T (coarse (want ∷ [])) → (T (eqb want (code Eof)) → ⊥)
     → T (marking (missed (want ∷ []))) → ((i : ℕ) → err_at ws i (refusal_code expected_token) want ≡ err_at ws i (missed (want ∷ [])) (plain_kind (wanted (want ∷ []))))
     → Decl (mark nothing pass widens (make kind ∷ []) ∷ []) (one (want ∷ []) ∷ []) src ws i a p row t n tree q → count row ≡ c → Closes ws tree want p q kind 0 i (span_at ws i) c r t' → Meets (reads item a (from src ws i) fresh) src ws t n r t'
 shut {src} {ws} {i} {p = p} {row} kind want f b z k w d e c =
@@ -148,11 +143,11 @@ shut {src} {ws} {i} {p = p} {row} kind want f b z k w d e c =
     (ap (λ (f : ℕ). single (rec_of kind f i (min (start_at ws i) (start_at ws p)) (max (stop_at ws i) (stop_at ws p)) (count row)) row (joined (span_at ws i) (span_at ws p))) f
     ∙ ap (λ (c : ℕ). single (close_rec ws p kind 0 i (span_at ws i) c) row (joined (span_at ws i) (span_at ws p))) e) c
 
-pub semi_shut : {src : Text} {ws : List ℕ} {i a p : ℕ} {row : Row} {t : List ℕ} {n : ℕ} {tree : List ℕ} {q c : ℕ} {r : Parsed} {t' : List ℕ} (kind : ℕ) → flag_of outs.flags kind (fine_at src ws i) + 0 ≡ 0
+pub semi_shut : {src : Text} {ws : List ℕ} {i a p : ℕ} {row : Row} {t : List ℕ} {n : ℕ} {tree : List ℕ} {q c : ℕ} {r : Result Node Refusal} {t' : List ℕ} (kind : ℕ) → flag_of outs.flags kind (fine_at src ws i) + 0 ≡ 0
     → Decl (mark nothing pass widens (make kind ∷ []) ∷ []) (one (code Semi ∷ []) ∷ []) src ws i a p row t n tree q → count row ≡ c → Closes ws tree (code Semi) p q kind 0 i (span_at ws i) c r t' → Meets (reads item a (from src ws i) fresh) src ws t n r t'
 semi_shut kind f d e c = shut kind (code Semi) f tt (λ u. u) tt (λ i. refl) d e c
 
-pub brace_shut : {src : Text} {ws : List ℕ} {i a p : ℕ} {row : Row} {t : List ℕ} {n : ℕ} {tree : List ℕ} {q c : ℕ} {r : Parsed} {t' : List ℕ} (kind : ℕ) → flag_of outs.flags kind (fine_at src ws i) + 0 ≡ 0
+pub brace_shut : {src : Text} {ws : List ℕ} {i a p : ℕ} {row : Row} {t : List ℕ} {n : ℕ} {tree : List ℕ} {q c : ℕ} {r : Result Node Refusal} {t' : List ℕ} (kind : ℕ) → flag_of outs.flags kind (fine_at src ws i) + 0 ≡ 0
     → Decl (mark nothing pass widens (make kind ∷ []) ∷ []) (one (code RBrace ∷ []) ∷ []) src ws i a p row t n tree q → count row ≡ c → Closes ws tree (code RBrace) p q kind 0 i (span_at ws i) c r t' → Meets (reads item a (from src ws i) fresh) src ws t n r t'
 brace_shut kind f d e c = shut kind (code RBrace) f tt (λ u. u) tt (λ i. refl) d e c
 

@@ -1,6 +1,6 @@
 -- What a reader of a block answers and writes, and the record of a declaration that ends with its block.
 -- Assumes nothing.
-use Rattle.std.specs.Prelude.{◌≡◌, List, ℕ, ◌+◌, ◌<◌}
+use Rattle.std.specs.Prelude.{◌≡◌, List, ℕ, ◌+◌, ◌<◌, Err, Ok, Result}
 use Rattle.grammar.specs.Records.{Rec, Acc, count, span, fresh}
 use Rattle.grammar.specs.Fused.{Outcome, left}
 use Rattle.quanta_grammar.specs.Productions.{block}
@@ -12,9 +12,8 @@ use Rattle.quanta_cursor.specs.Tree.{rec_of, Laid}
 use Rattle.quanta_cursor.specs.Answers.{Failed}
 use Rattle.quanta_cursor.specs.Cursor.{joined, span_at}
 use Rattle.quanta_item.specs.declared.decl.Body.{Body}
-use Rattle.quanta_item.specs.declared.decl.Blocked.{Blocked}
-use Rattle.quanta_item.specs.declared.decl.Blocked.TheVariants as blocked
 use Rattle.quanta_grammar.specs.Refine.{Text}
+use Rattle.quanta_cursor.specs.declared.parser.Refusal.{Refusal}
 
 -- the outcome is so many records side by side and this span, with the tokens from r's position on;
 -- they are laid over the words t from the record n on
@@ -26,15 +25,15 @@ pub record TookBlock (o : Outcome) (src : Text) (ws t : List ℕ) (n : ℕ) (r :
   pub laid : Laid t n acc.row t' r.no.0
   pub inside : r.at.0 < size ws
 
-abbrev pub AnswersBlock : Outcome → Text → List ℕ → List ℕ → ℕ → Blocked → List ℕ → Type 0
-AnswersBlock o src ws t n (blocked.Body r) t' = TookBlock o src ws t n r t'
-AnswersBlock o src ws t n (blocked.Refused e) t' = Failed o e
+abbrev pub AnswersBlock : Outcome → Text → List ℕ → List ℕ → ℕ → Result Body Refusal → List ℕ → Type 0
+AnswersBlock o src ws t n (Ok r) t' = TookBlock o src ws t n r t'
+AnswersBlock o src ws t n (Err e) t' = Failed o e
 
-pub record MeetsBlock (o : Outcome) (src : Text) (ws t : List ℕ) (n : ℕ) (r : Blocked) (t' : List ℕ) : Type 0 where
+pub record MeetsBlock (o : Outcome) (src : Text) (ws t : List ℕ) (n : ℕ) (r : Result Body Refusal) (t' : List ℕ) : Type 0 where
   pub by : AnswersBlock o src ws t n r t'
 
 -- a block at the token i with the allowance a, over the words t from the record n on: the answer r, and the words t'
-abbrev pub Blocks : Text → List ℕ → ℕ → ℕ → ℕ → List ℕ → Blocked → List ℕ → Type 0
+abbrev pub Blocks : Text → List ℕ → ℕ → ℕ → ℕ → List ℕ → Result Body Refusal → List ℕ → Type 0
 Blocks src ws i n a t r t' = MeetsBlock (reads block a (from src ws i) fresh) src ws t n r t'
 
 -- a declaration from its keyword, the token own, up to its block b: its span, its record and its node

@@ -1,5 +1,6 @@
 -- A field and its default: each way through their readers.
 -- Assumes nothing.
+use Rattle.std.specs.Prelude.{Err, None, Ok, Option, Result, Some}
 use mathlib.Core.Path.{◌≡◌, refl, ap, ◌∙◌}
 use mathlib.Core.List.{List, [], ◌∷◌}
 use Prim.Native.Nat.{ℕ, ◌+◌, ◌≤◌}
@@ -18,10 +19,6 @@ use Rattle.quanta_cursor.specs.declared.parser.TokenPos.{TokenPos}
 use Rattle.quanta_cursor.specs.declared.parser.Span.{Span}
 use Rattle.quanta_cursor.specs.declared.parser.Node.{Node}
 use Rattle.quanta_cursor.specs.declared.parser.Refusal.{Refusal}
-use Rattle.quanta_cursor.specs.declared.parser.Parsed.{Parsed}
-use Rattle.quanta_cursor.specs.declared.parser.Parsed.TheVariants as parsed
-use Rattle.quanta_cursor.specs.declared.parser.Expected.{Expected}
-use Rattle.quanta_cursor.specs.declared.parser.Expected.TheVariants as expected
 use Rattle.quanta_cursor.specs.Tokens.{kind_at, from, tok_at, Ready}
 use Rattle.quanta_cursor.specs.Answers.{single, Failed, Took, Meets}
 use Rattle.quanta_cursor.specs.Cursor.{joined, span_at, Expects, Words, close_rec, Closes}
@@ -29,17 +26,15 @@ use Rattle.quanta_cursor.proofs.Sets.{is_one, not_one}
 use Rattle.quanta_cursor.proofs.Places.{took_ready, ready_behind}
 use Rattle.quanta_cursor.proofs.Doing.{Doing, picks, skips, begin, eat, bring, fails, over}
 use Rattle.quanta_cursor.proofs.Under.{starts, worded, worded_in, unworded, phrased, unphrased, closed_by}
-use Rattle.quanta_type.specs.declared.half.Typed.{Typed}
-use Rattle.quanta_type.specs.declared.half.Typed.TheVariants as typed
 use Rattle.quanta_type.specs.Halves.{half_from, half_err, MeetsType}
 use Rattle.quanta_type.proofs.Halves.{half_ready, bring_any, field_tail, semi_shown}
 use Rattle.quanta_type.proofs.Types.{typed_of, half_of, untyped_of}
 use Rattle.quanta_param.specs.declared.decl.Eaten.{Eaten}
-use Rattle.quanta_param.specs.declared.decl.Opted.{Opted}
-use Rattle.quanta_param.specs.declared.decl.Opted.TheVariants as opted
 use Rattle.quanta_param.specs.Options.{Eats, added, TookOpt, Opts}
 use Rattle.quanta_param.proofs.Options.{After, expects_own, lacks_own, flagged, Keyword, eaten_few, eaten_in, opt_of, without, with_it, opt_bad}
 use Rattle.quanta_grammar.specs.Refine.{Text}
+use Rattle.quanta_type.specs.declared.half.Typed.TheVariants.{Whole, Half}
+use Rattle.quanta_type.specs.declared.half.Typed.{Typed}
 
 -- `meta`
 meta_keyword : Keyword meta_opt (code Meta) (flag_code is_meta)
@@ -80,11 +75,11 @@ module _ (src : Text) (ws : List ℕ) (a : ℕ) {i n : ℕ} (g : Ready ws i n) {
   pub meta_few : s.flag ≤ 1
   meta_few = eaten_few meta_keyword g v₀
 
-  module _ {t₁ : List ℕ} {y : Parsed} (v : Words name (node_code name_node) (refusal_code expected_identifier) ws t s.at.0 n y t₁) where
-    pub field_nameless : {u : Refusal} → y ≡ parsed.Refused u → Failed (reads field a (from src ws i) fresh) u
+  module _ {t₁ : List ℕ} {y : Result Node Refusal} (v : Words name (node_code name_node) (refusal_code expected_identifier) ws t s.at.0 n y t₁) where
+    pub field_nameless : {u : Refusal} → y ≡ Err u → Failed (reads field a (from src ws i) fresh) u
     field_nameless z = unworded name (node_code name_node) field_meta tt v tt (λ i. refl) z
 
-    module _ {m : Node} (z : y ≡ parsed.Node m) where
+    module _ {m : Node} (z : y ≡ Ok m) where
       field_named : After field_decl 2 src ws i a m.at.0 (worded apart (node_code name_node) ws s.at.0 (flagged s.flag fresh)) t n t₁ m.no.0
       field_named = worded_in name (node_code name_node) field_meta tt v (λ u. u) tt z
 
@@ -95,11 +90,11 @@ module _ (src : Text) (ws : List ℕ) (a : ℕ) {i n : ℕ} (g : Ready ws i n) {
       abbrev field_rec : ℕ → ℕ → ℕ → Rec
       field_rec p f c = close_rec ws p (node_code field_node) f m.at.0 (span_at ws i) c
 
-      module _ {y₁ : Expected} (v₁ : Expects ws m.at.0 (code Colon) y₁) where
-        pub field_colonless : {u : Refusal} → y₁ ≡ expected.Refused u → Failed (reads field a (from src ws i) fresh) u
+      module _ {y₁ : Result TokenPos Refusal} (v₁ : Expects ws m.at.0 (code Colon) y₁) where
+        pub field_colonless : {u : Refusal} → y₁ ≡ Err u → Failed (reads field a (from src ws i) fresh) u
         field_colonless z₁ = lacks_own (code Colon) field_named tt v₁ tt (λ i. refl) z₁
 
-        module _ {b : TokenPos} (z₁ : y₁ ≡ expected.Next b) where
+        module _ {b : TokenPos} (z₁ : y₁ ≡ Ok b) where
           abbrev colon : Acc
           colon = leave outs own apart (tok_at src ws m.at.0) (worded apart (node_code name_node) ws s.at.0 (flagged s.flag fresh))
 
@@ -109,16 +104,16 @@ module _ (src : Text) (ws : List ℕ) (a : ℕ) {i n : ℕ} (g : Ready ws i n) {
           pub colon_ready : Ready ws b.0 m.no.0
           colon_ready = field_colon.ready
 
-          module _ {y₂ : Typed} {t₂ : List ℕ}
+          module _ {y₂ : Result (Typed Node) Refusal} {t₂ : List ℕ}
               (v₂ : MeetsType (reads type a (from src ws b.0) fresh) src ws t₁ m.no.0 y₂ t₂) where
-            pub field_typeless : {u : Refusal} → y₂ ≡ typed.Refused u → Failed (reads field a (from src ws i) fresh) u
+            pub field_typeless : {u : Refusal} → y₂ ≡ Err u → Failed (reads field a (from src ws i) fresh) u
             field_typeless z₂ = unphrased field_colon (untyped_of z₂ v₂)
 
             -- the first closer of a `>>` closed its type, and the second is no `;`
-            pub half_place : {d : Node} → y₂ ≡ typed.Half d → Ready ws d.at.0 d.no.0
+            pub half_place : {d : Node} → y₂ ≡ Ok (Half d) → Ready ws d.at.0 d.no.0
             half_place z₂ = half_ready type a (half_of z₂ v₂) colon_ready
 
-            pub field_halved : {d : Node} {u : Refusal} → y₂ ≡ typed.Half d
+            pub field_halved : {d : Node} {u : Refusal} → y₂ ≡ Ok (Half d)
                 → u ≡ half_err ws d.at.0 (refusal_code expected_token) (code Semi)
                 → Failed (reads field a (from src ws i) fresh) u
             field_halved {d} z₂ e =
@@ -132,7 +127,7 @@ module _ (src : Text) (ws : List ℕ) (a : ℕ) {i n : ℕ} (g : Ready ws i n) {
                   says = e ∙ semi_shown src ws d.at.0;
                 }
 
-            module _ {d : Node} (z₂ : y₂ ≡ typed.Node d) where
+            module _ {d : Node} (z₂ : y₂ ≡ Ok (Whole d)) where
               k : Took (reads type a (from src ws b.0) fresh) src ws t₁ m.no.0 d t₂
               k = typed_of z₂ v₂
 
@@ -145,12 +140,12 @@ module _ (src : Text) (ws : List ℕ) (a : ℕ) {i n : ℕ} (g : Ready ws i n) {
               pub typed_ready : Ready ws d.at.0 d.no.0
               typed_ready = field_typed.ready
 
-              module _ {y₃ : Opted} {t₃ : List ℕ} (v₃ : Opts src default apart (flag_code has_default) ws d.at.0 d.no.0 a t₂ y₃ t₃) where
-                pub field_defaultless : {u : Refusal} → y₃ ≡ opted.Refused u → Failed (reads field a (from src ws i) fresh) u
+              module _ {y₃ : Result (Option Node) Refusal} {t₃ : List ℕ} (v₃ : Opts src default apart (flag_code has_default) ws d.at.0 d.no.0 a t₂ y₃ t₃) where
+                pub field_defaultless : {u : Refusal} → y₃ ≡ Err u → Failed (reads field a (from src ws i) fresh) u
                 field_defaultless z₃ = opt_bad field_typed v₃ z₃
 
                 -- its type, and `;`
-                pub field_plain : {r : Parsed} {t₄ : List ℕ} → y₃ ≡ opted.Missing → Closes ws t₃ (code Semi) d.at.0 d.no.0 (node_code field_node) s.flag m.at.0 (span_at ws i) 2 r t₄
+                pub field_plain : {r : Result Node Refusal} {t₄ : List ℕ} → y₃ ≡ Ok None → Closes ws t₃ (code Semi) d.at.0 d.no.0 (node_code field_node) s.flag m.at.0 (span_at ws i) 2 r t₄
                     → Meets (reads field a (from src ws i) fresh) src ws t n r t₄
                 field_plain z₃ c =
                     let e : 0 + (0 + s.flag) ≡ s.flag = omega arith in
@@ -159,7 +154,7 @@ module _ (src : Text) (ws : List ℕ) (a : ℕ) {i n : ℕ} (g : Ready ws i n) {
                     (ap (λ (f : ℕ). single (field_rec d.at.0 f 2) known.row u) e) c
 
                 -- .. or with its default before it
-                module _ {l : Node} (z₃ : y₃ ≡ opted.Node l) where
+                module _ {l : Node} (z₃ : y₃ ≡ Ok (Some l)) where
                   abbrev valued : Acc
                   valued =
                       let j = opt_of z₃ (v₃ known) in
@@ -168,7 +163,7 @@ module _ (src : Text) (ws : List ℕ) (a : ℕ) {i n : ℕ} (g : Ready ws i n) {
                   pub default_ready : Ready ws l.at.0 l.no.0
                   default_ready = (opt_of z₃ (v₃ known)).ready
 
-                  pub field_valued : {f : ℕ} {r : Parsed} {t₄ : List ℕ} → f ≡ s.flag + 2 → Closes ws t₃ (code Semi) l.at.0 l.no.0 (node_code field_node) f m.at.0 (span_at ws i) 3 r t₄
+                  pub field_valued : {f : ℕ} {r : Result Node Refusal} {t₄ : List ℕ} → f ≡ s.flag + 2 → Closes ws t₃ (code Semi) l.at.0 l.no.0 (node_code field_node) f m.at.0 (span_at ws i) 3 r t₄
                       → Meets (reads field a (from src ws i) fresh) src ws t n r t₄
                   field_valued {f} h c =
                       let e : 0 + (0 + s.flag + 2) ≡ f = omega arith in

@@ -1,5 +1,6 @@
 -- Of a production under way: an own token that is expected, parts that may be missing, and a record that no token closes.
 -- Assumes nothing.
+use Rattle.std.specs.Prelude.{Err, None, Ok, Option, Result, Some}
 use mathlib.Core.Path.{◌≡◌, refl, ap, sym, subst, ◌∙◌}
 use mathlib.Core.List.{List, [], ◌∷◌}
 use mathlib.Core.Logic.{⊎_elim}
@@ -20,8 +21,6 @@ use Rattle.quanta_cursor.specs.declared.parser.TokenPos.{TokenPos}
 use Rattle.quanta_cursor.specs.declared.parser.Span.{Span}
 use Rattle.quanta_cursor.specs.declared.parser.Node.{Node}
 use Rattle.quanta_cursor.specs.declared.parser.Refusal.{Refusal}
-use Rattle.quanta_cursor.specs.declared.parser.Expected.{Expected}
-use Rattle.quanta_cursor.specs.declared.parser.Expected.TheVariants as expected
 use Rattle.quanta_cursor.specs.Tokens.{size, kind_at, from, fine_at, tok_at, Ready}
 use Rattle.quanta_cursor.specs.Tree.{rec_of, Laid}
 use Rattle.quanta_cursor.specs.Answers.{single, Failed, Took}
@@ -32,8 +31,6 @@ use Rattle.quanta_cursor.proofs.Meeting.{next_of, lacks_of}
 use Rattle.quanta_cursor.proofs.Doing.{Doing, eat, lack, fold_in, ends}
 use Rattle.quanta_cursor.proofs.Under.{leaf_of_lem, Under, leaves, worded, folded, unfolded}
 use Rattle.quanta_param.specs.declared.decl.Eaten.{Eaten}
-use Rattle.quanta_param.specs.declared.decl.Opted.{Opted}
-use Rattle.quanta_param.specs.declared.decl.Opted.TheVariants as opted
 use Rattle.quanta_param.specs.Options.{Eats, added, TookOpt, AnswersOpt, MeetsOpt, Opts, EndsAt}
 
 -- the production r of s at the token i, when k of its parts are read
@@ -42,13 +39,13 @@ After {s} r k src ws i a p x t n tree q = Under (reads s a (from src ws i) fresh
 
 -- A TOKEN THAT IS EXPECTED, the own token of the record to come
 module _ {o : Outcome} {src : Text} {ws : List ℕ} {t₀ : Tok} {ms : List Mark} {is : Items grammar} {a p : ℕ} {x : Acc} {t : List ℕ} {n : ℕ} {tree : List ℕ} {q : ℕ} {r : Reach} (want : ℕ)
-    (u : Under o src ws t₀ (mark own pass r [] ∷ ms) (one (want ∷ []) ∷ is) a p x t n tree q) (k : T (coarse (want ∷ []))) {y : Expected} (v : Expects ws p want y) where
-  pub expects_own : {p' : TokenPos} → (T (eqb want (code Eof)) → ⊥) → y ≡ expected.Next p' → Under o src ws t₀ ms is a p'.0 (leave outs own r (tok_at src ws p) x) t n tree q
+    (u : Under o src ws t₀ (mark own pass r [] ∷ ms) (one (want ∷ []) ∷ is) a p x t n tree q) (k : T (coarse (want ∷ []))) {y : Result TokenPos Refusal} (v : Expects ws p want y) where
+  pub expects_own : {p' : TokenPos} → (T (eqb want (code Eof)) → ⊥) → y ≡ Ok p' → Under o src ws t₀ ms is a p'.0 (leave outs own r (tok_at src ws p) x) t n tree q
   expects_own z e =
       let w = next_of e v in
       record { doing = eat u.doing k u.ready.inside (is_one want w.0) w.1; laid = u.laid; ready = ready_past u.ready (past_as want z u.ready.closed u.ready.inside w.0) w.1 }
 
-  pub lacks_own : {e : Refusal} → T (marking (missed (want ∷ []))) → ((i : ℕ) → err_at ws i (refusal_code expected_token) want ≡ err_at ws i (missed (want ∷ [])) (plain_kind (wanted (want ∷ [])))) → y ≡ expected.Refused e → Failed o e
+  pub lacks_own : {e : Refusal} → T (marking (missed (want ∷ []))) → ((i : ℕ) → err_at ws i (refusal_code expected_token) want ≡ err_at ws i (missed (want ∷ [])) (plain_kind (wanted (want ∷ [])))) → y ≡ Err e → Failed o e
   lacks_own m s e = let w = lacks_of e v in lack u.doing k u.ready.closed u.ready.inside (not_one want w.0) m (w.1 ∙ s p)
 
 -- A KEYWORD: x with f more for the flag of the record to come
@@ -86,34 +83,34 @@ module _ {s : Symbol} {k f : ℕ} (law : Keyword s k f) {ws : List ℕ} {i n : �
 
 -- A NODE THAT MAY BE MISSING: an answer that is made, and one that is taken apart
 module _ {o : Outcome} {x : Acc} {y : Reach} {f : ℕ} {src : Text} {ws : List ℕ} {i : ℕ} {t : List ℕ} {n : ℕ} {t' : List ℕ} where
-  pub missing : o ≡ left x (from src ws i) → t' ≡ t → MeetsOpt o x y f src ws i t n opted.Missing t'
+  pub missing : o ≡ left x (from src ws i) → t' ≡ t → MeetsOpt o x y f src ws i t n Ok None t'
   missing e w = record { by = (e, w) }
 
-  pub took_opt : {m : Node} → TookOpt o x y f src ws t n m t' → MeetsOpt o x y f src ws i t n (opted.Node m) t'
+  pub took_opt : {m : Node} → TookOpt o x y f src ws t n m t' → MeetsOpt o x y f src ws i t n (Ok (Some m)) t'
   took_opt k = record { by = k }
 
-  pub failed_opt : {e : Refusal} → Failed o e → MeetsOpt o x y f src ws i t n (opted.Refused e) t'
+  pub failed_opt : {e : Refusal} → Failed o e → MeetsOpt o x y f src ws i t n (Err e) t'
   failed_opt k = record { by = k }
 
-  pub missing_of : {r : Opted} → r ≡ opted.Missing → MeetsOpt o x y f src ws i t n r t' → (o ≡ left x (from src ws i)) × (t' ≡ t)
-  missing_of z m = subst (λ (r : Opted). AnswersOpt o x y f src ws i t n r t') z m.by
+  pub missing_of : {r : Result (Option Node) Refusal} → r ≡ Ok None → MeetsOpt o x y f src ws i t n r t' → (o ≡ left x (from src ws i)) × (t' ≡ t)
+  missing_of z m = subst (λ (r : Result (Option Node) Refusal). AnswersOpt o x y f src ws i t n r t') z m.by
 
-  pub opt_of : {r : Opted} {m : Node} → r ≡ opted.Node m → MeetsOpt o x y f src ws i t n r t' → TookOpt o x y f src ws t n m t'
-  opt_of z m = subst (λ (r : Opted). AnswersOpt o x y f src ws i t n r t') z m.by
+  pub opt_of : {r : Result (Option Node) Refusal} {m : Node} → r ≡ Ok (Some m) → MeetsOpt o x y f src ws i t n r t' → TookOpt o x y f src ws t n m t'
+  opt_of z m = subst (λ (r : Result (Option Node) Refusal). AnswersOpt o x y f src ws i t n r t') z m.by
 
-  pub opt_failed_of : {r : Opted} {e : Refusal} → r ≡ opted.Refused e → MeetsOpt o x y f src ws i t n r t' → Failed o e
-  opt_failed_of z m = subst (λ (r : Opted). AnswersOpt o x y f src ws i t n r t') z m.by
+  pub opt_failed_of : {r : Result (Option Node) Refusal} {e : Refusal} → r ≡ Err e → MeetsOpt o x y f src ws i t n r t' → Failed o e
+  opt_failed_of z m = subst (λ (r : Result (Option Node) Refusal). AnswersOpt o x y f src ws i t n r t') z m.by
 
 -- .. as a part of a production
 module _ {o : Outcome} {src : Text} {ws : List ℕ} {t₀ : Tok} {ms : List Mark} {is : Items grammar} {a p : ℕ} {x : Acc} {t : List ℕ} {n : ℕ} {tree : List ℕ} {q : ℕ} {w : Leaf} {z y : Reach} {s : Symbol} {f : ℕ}
-    (u : Under o src ws t₀ (mark w fold z [] ∷ ms) (sub s ∷ is) a p x t n tree q) {r : Opted} {tree' : List ℕ} (v : Opts src s y f ws p q a tree r tree') where
-  pub without : r ≡ opted.Missing → Under o src ws t₀ ms is a p x t n tree' q
+    (u : Under o src ws t₀ (mark w fold z [] ∷ ms) (sub s ∷ is) a p x t n tree q) {r : Result (Option Node) Refusal} {tree' : List ℕ} (v : Opts src s y f ws p q a tree r tree') where
+  pub without : r ≡ Ok None → Under o src ws t₀ ms is a p x t n tree' q
   without e = let k = missing_of e (v x) in folded u k.0 (subst (λ (l : List ℕ). Laid t n x.row l q) (sym k.1) u.laid) u.ready
 
-  pub with_it : {m : Node} (e : r ≡ opted.Node m) → let k = opt_of e (v x) in Under o src ws t₀ ms is a m.at.0 (added y f x k.top k.below m.span) t n tree' m.no.0
+  pub with_it : {m : Node} (e : r ≡ Ok (Some m)) → let k = opt_of e (v x) in Under o src ws t₀ ms is a m.at.0 (added y f x k.top k.below m.span) t n tree' m.no.0
   with_it e = let k = opt_of e (v x) in folded u k.gave (laid_glue u.laid k.laid) k.ready
 
-  pub opt_bad : {e : Refusal} → r ≡ opted.Refused e → Failed o e
+  pub opt_bad : {e : Refusal} → r ≡ Err e → Failed o e
   opt_bad e = unfolded u (opt_failed_of e (v x))
 
 -- A WORD with the steps behind it

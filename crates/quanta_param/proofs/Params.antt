@@ -1,5 +1,6 @@
 -- A parameter, its signer, and a list of parameters: each way through their readers.
 -- Assumes nothing.
+use Rattle.std.specs.Prelude.{Err, None, Ok, Option, Result, Some}
 use mathlib.Core.Path.{◌≡◌, refl, ap, sym, subst, ◌∙◌}
 use mathlib.Core.List.{List, [], ◌∷◌}
 use Prim.Native.Nat.{ℕ, ◌+◌, ◌≤◌}
@@ -20,10 +21,6 @@ use Rattle.quanta_cursor.specs.declared.parser.Span.{Span}
 use Rattle.quanta_cursor.specs.declared.parser.Node.{Node}
 use Rattle.quanta_cursor.specs.declared.parser.Nodes.{Nodes}
 use Rattle.quanta_cursor.specs.declared.parser.Refusal.{Refusal}
-use Rattle.quanta_cursor.specs.declared.parser.Parsed.{Parsed}
-use Rattle.quanta_cursor.specs.declared.parser.Parsed.TheVariants as parsed
-use Rattle.quanta_cursor.specs.declared.parser.Expected.{Expected}
-use Rattle.quanta_cursor.specs.declared.parser.Expected.TheVariants as expected
 use Rattle.quanta_cursor.specs.Tokens.{kind_at, from, tok_at, Ready}
 use Rattle.quanta_cursor.specs.Tree.{rec_of, Laid}
 use Rattle.quanta_cursor.specs.Answers.{single, Failed, Took, TookAll}
@@ -37,20 +34,16 @@ use Rattle.quanta_cursor.proofs.Doing.{Doing, picks, skips, begin, eat, lack, fo
 use Rattle.quanta_cursor.proofs.Lists.{glue_none}
 use Rattle.quanta_cursor.proofs.Listing.{list_fails}
 use Rattle.quanta_cursor.proofs.Under.{starts, expects, unexpected, worded, worded_in, unworded, phrased, unphrased, alled}
-use Rattle.quanta_type.specs.declared.half.Typed.{Typed}
-use Rattle.quanta_type.specs.declared.half.Typed.TheVariants as typed
-use Rattle.quanta_type.specs.declared.half.Typeds.{Typeds}
-use Rattle.quanta_type.specs.declared.half.Typeds.TheVariants as typeds
 use Rattle.quanta_type.specs.Halves.{half_from, half_err, TookHalf, MeetsType, AnswersTypes, ListsTypes}
 use Rattle.quanta_type.proofs.Halves.{half_ready, list_any, bring_any, param_tail, paren_tail, paren_shown}
 use Rattle.quanta_type.proofs.Types.{typed_of, half_of, untyped_of, types_of, types_half_of, no_types_of}
 use Rattle.quanta_type.proofs.Arguments.{whole}
 use Rattle.quanta_param.specs.declared.decl.Eaten.{Eaten}
-use Rattle.quanta_param.specs.declared.decl.Opted.{Opted}
-use Rattle.quanta_param.specs.declared.decl.Opted.TheVariants as opted
 use Rattle.quanta_param.specs.Options.{Eats, added, TookOpt, Opts, EndsAt}
 use Rattle.quanta_param.proofs.Options.{After, expects_own, lacks_own, flagged, Keyword, eaten_few, eaten_in, missing_of, opt_of, opt_failed_of, eat_word_then, ended_by}
 use Rattle.quanta_grammar.specs.Refine.{Text}
+use Rattle.quanta_type.specs.declared.half.Typed.TheVariants.{Whole, Half}
+use Rattle.quanta_type.specs.declared.half.Typed.{Typed}
 
 -- `sealed`
 sealed_keyword : Keyword sealed_opt (code Sealed) (flag_code is_sealed)
@@ -73,22 +66,22 @@ module _ (src : Text) (ws : List ℕ) (a : ℕ) {i n : ℕ} (g : Ready ws i n) (
     pub signer_past : Ready ws p n
     signer_past = ready_behind (code Signed) (λ u. u) g u e
 
-    module _ {y : Expected} (v : Expects ws p (code By) y) where
-      pub signer_byless : {w : Refusal} → y ≡ expected.Refused w → Failed (reads signed_opt a (from src ws i) x) w
+    module _ {y : Result TokenPos Refusal} (v : Expects ws p (code By) y) where
+      pub signer_byless : {w : Refusal} → y ≡ Err w → Failed (reads signed_opt a (from src ws i) x) w
       signer_byless z = let w = lacks_of z v in lack signer_key tt g.closed signer_past.inside (not_one (code By) w.0) tt w.1
 
-      module _ {b : TokenPos} (z : y ≡ expected.Next b) where
+      module _ {b : TokenPos} (z : y ≡ Ok b) where
         signer_by : Doing (reads signed_opt a (from src ws i) x) src ws (tok_at src ws i) (mark word pass replaces (plus (flag_code is_signed) ∷ []) ∷ []) (one name ∷ []) a b.0 x
         signer_by = let w = next_of z v in eat signer_key tt signer_past.inside (is_one (code By) w.0) w.1
 
         pub by_ready : Ready ws b.0 n
         by_ready = let w = next_of z v in ready_past signer_past (past_as (code By) (λ u. u) g.closed signer_past.inside w.0) w.1
 
-        module _ {t t₁ : List ℕ} {y₁ : Parsed} (v₁ : Words name (node_code name_node) (refusal_code expected_identifier) ws t b.0 n y₁ t₁) where
-          pub signer_nameless : {w : Refusal} → y₁ ≡ parsed.Refused w → Failed (reads signed_opt a (from src ws i) x) w
+        module _ {t t₁ : List ℕ} {y₁ : Result Node Refusal} (v₁ : Words name (node_code name_node) (refusal_code expected_identifier) ws t b.0 n y₁ t₁) where
+          pub signer_nameless : {w : Refusal} → y₁ ≡ Err w → Failed (reads signed_opt a (from src ws i) x) w
           signer_nameless z₁ = let w = no_word_of z₁ v₁ in lack signer_by tt g.closed by_ready.inside w.0 tt w.1
 
-          pub signer_took : {m : Node} → y₁ ≡ parsed.Node m → TookOpt (reads signed_opt a (from src ws i) x) x replaces (flag_code is_signed) src ws t n m t₁
+          pub signer_took : {m : Node} → y₁ ≡ Ok m → TookOpt (reads signed_opt a (from src ws i) x) x replaces (flag_code is_signed) src ws t n m t₁
           signer_took {m} z₁ =
               let w = word_of z₁ v₁ in
               subst (λ (m : Node). TookOpt (reads signed_opt a (from src ws i) x) x replaces (flag_code is_signed) src ws t n m t₁) (sym w.1) (record {
@@ -100,12 +93,12 @@ module _ (src : Text) (ws : List ℕ) (a : ℕ) {i n : ℕ} (g : Ready ws i n) (
               })
 
 -- A PARAMETER
-module _ (src : Text) (ws : List ℕ) (a : ℕ) {i n : ℕ} (g : Ready ws i n) {t t₁ : List ℕ} {y : Parsed}
+module _ (src : Text) (ws : List ℕ) (a : ℕ) {i n : ℕ} (g : Ready ws i n) {t t₁ : List ℕ} {y : Result Node Refusal}
     (v : Words name (node_code name_node) (refusal_code expected_identifier) ws t i n y t₁) where
-  pub param_nameless : {u : Refusal} → y ≡ parsed.Refused u → Failed (reads param a (from src ws i) fresh) u
+  pub param_nameless : {u : Refusal} → y ≡ Err u → Failed (reads param a (from src ws i) fresh) u
   param_nameless z = unworded name (node_code name_node) (starts src ws param param_decl a g refl refl) tt v tt (λ i. refl) z
 
-  module _ {m : Node} (z : y ≡ parsed.Node m) where
+  module _ {m : Node} (z : y ≡ Ok m) where
     param_named : After param_decl 1 src ws i a m.at.0 (worded apart (node_code name_node) ws i fresh) t n t₁ m.no.0
     param_named = worded_in name (node_code name_node) (starts src ws param param_decl a g refl refl) tt v (λ u. u) tt z
 
@@ -123,11 +116,11 @@ module _ (src : Text) (ws : List ℕ) (a : ℕ) {i n : ℕ} (g : Ready ws i n) {
         subst (λ (s : Span). EndsAt t₂ (node_code param_node) f m.at.0 (joined s l.span) c l r t₃)
         (ap (λ (m : Node). m.span) (word_of z v).1) e
 
-    module _ {y₁ : Expected} (v₁ : Expects ws m.at.0 (code Colon) y₁) where
-      pub param_colonless : {u : Refusal} → y₁ ≡ expected.Refused u → Failed (reads param a (from src ws i) fresh) u
+    module _ {y₁ : Result TokenPos Refusal} (v₁ : Expects ws m.at.0 (code Colon) y₁) where
+      pub param_colonless : {u : Refusal} → y₁ ≡ Err u → Failed (reads param a (from src ws i) fresh) u
       param_colonless z₁ = lacks_own (code Colon) param_named tt v₁ tt (λ i. refl) z₁
 
-      module _ {b : TokenPos} (z₁ : y₁ ≡ expected.Next b) where
+      module _ {b : TokenPos} (z₁ : y₁ ≡ Ok b) where
         param_colon : After param_decl 2 src ws i a b.0 (leave outs own apart (tok_at src ws m.at.0) (worded apart (node_code name_node) ws i fresh)) t n t₁ m.no.0
         param_colon = expects_own (code Colon) param_named tt v₁ (λ u. u) z₁
 
@@ -147,12 +140,12 @@ module _ (src : Text) (ws : List ℕ) (a : ℕ) {i n : ℕ} (g : Ready ws i n) {
           pub sealed_few : s.flag ≤ 1
           sealed_few = eaten_few sealed_keyword colon_ready v₂
 
-          module _ {y₃ : Typed} {t₂ : List ℕ}
+          module _ {y₃ : Result (Typed Node) Refusal} {t₂ : List ℕ}
               (v₃ : MeetsType (reads type a (from src ws s.at.0) fresh) src ws t₁ m.no.0 y₃ t₂) where
-            pub param_typeless : {u : Refusal} → y₃ ≡ typed.Refused u → Failed (reads param a (from src ws i) fresh) u
+            pub param_typeless : {u : Refusal} → y₃ ≡ Err u → Failed (reads param a (from src ws i) fresh) u
             param_typeless z₃ = unphrased param_sealed (untyped_of z₃ v₃)
 
-            module _ {d : Node} (z₃ : y₃ ≡ typed.Node d) where
+            module _ {d : Node} (z₃ : y₃ ≡ Ok (Whole d)) where
               k : Took (reads type a (from src ws s.at.0) fresh) src ws t₁ m.no.0 d t₂
               k = typed_of z₃ v₃
 
@@ -165,12 +158,12 @@ module _ (src : Text) (ws : List ℕ) (a : ℕ) {i n : ℕ} (g : Ready ws i n) {
               pub typed_ready : Ready ws d.at.0 d.no.0
               typed_ready = param_typed.ready
 
-              module _ {y₄ : Opted} {t₃ : List ℕ} (v₄ : Opts src signed_opt replaces (flag_code is_signed) ws d.at.0 d.no.0 a t₂ y₄ t₃) where
-                pub param_missigned : {u : Refusal} → y₄ ≡ opted.Refused u → Failed (reads param a (from src ws i) fresh) u
+              module _ {y₄ : Result (Option Node) Refusal} {t₃ : List ℕ} (v₄ : Opts src signed_opt replaces (flag_code is_signed) ws d.at.0 d.no.0 a t₂ y₄ t₃) where
+                pub param_missigned : {u : Refusal} → y₄ ≡ Err u → Failed (reads param a (from src ws i) fresh) u
                 param_missigned z₄ = fold_fails param_typed.doing (opt_failed_of z₄ (v₄ known))
 
                 -- it ends with its type
-                pub param_plain : {r : Node} {t₄ : List ℕ} → y₄ ≡ opted.Missing
+                pub param_plain : {r : Node} {t₄ : List ℕ} → y₄ ≡ Ok None
                     → EndsAt t₃ (node_code param_node) s.flag m.at.0 (joined m.span d.span) 2 d r t₄
                     → Took (reads param a (from src ws i) fresh) src ws t n r t₄
                 param_plain {r} {t₄} z₄ c =
@@ -183,7 +176,7 @@ module _ (src : Text) (ws : List ℕ) (a : ℕ) {i n : ℕ} (g : Ready ws i n) {
                     (from_name t₃ s.flag 2 d r t₄ c)
 
                 -- .. or with its signer
-                module _ {l : Node} (z₄ : y₄ ≡ opted.Node l) where
+                module _ {l : Node} (z₄ : y₄ ≡ Ok (Some l)) where
                   j : TookOpt (reads signed_opt a (from src ws d.at.0) known) known replaces (flag_code is_signed)
                       src ws t₂ d.no.0 l t₃
                   j = opt_of z₄ (v₄ known)
@@ -203,7 +196,7 @@ module _ (src : Text) (ws : List ℕ) (a : ℕ) {i n : ℕ} (g : Ready ws i n) {
                       (from_name t₃ f 3 l r t₄ c)
 
             -- the first closer of a `>>` closed its type, and so it ends
-            module _ {d : Node} (z₃ : y₃ ≡ typed.Half d) where
+            module _ {d : Node} (z₃ : y₃ ≡ Ok (Half d)) where
               h : TookHalf (reads type a (from src ws s.at.0) fresh) src ws t₁ m.no.0 d t₂
               h = half_of z₃ v₃
 
@@ -235,7 +228,7 @@ module _ (src : Text) (ws : List ℕ) (a : ℕ) {i n : ℕ} (g : Ready ws i n) {
 module _ (src : Text) (ws : List ℕ) (a : ℕ) {i n : ℕ} (g : Ready ws i n) where
   -- none at all
   pub params_none : {t : List ℕ} {r : Nodes} → kind_at ws i ≡ code RParen → r.at.0 ≡ i → r.no.0 ≡ n → r.count ≡ 0
-      → ListsTypes (reads params a (from src ws i) fresh) fresh src ws t n (typeds.Nodes r) t
+      → ListsTypes (reads params a (from src ws i) fresh) fresh src ws t n (Ok (Whole r)) t
   params_none {t} {r} u e f h =
       record {
         by = record {
@@ -257,12 +250,12 @@ module _ (src : Text) (ws : List ℕ) (a : ℕ) {i n : ℕ} (g : Ready ws i n) w
         begin src ws i g.inside params some_params a fresh
         (skips (code RParen ∷ []) no_params [] (use' some_params) tt src ws i (not_one (code RParen) u)) refl
 
-    some_by : (t : List ℕ) (r : Typeds) (t' : List ℕ)
+    some_by : (t : List ℕ) (r : Result (Typed Nodes) Refusal) (t' : List ℕ)
         → AnswersTypes (whole param more_params a (from src ws i) fresh) fresh src ws t n r t'
         → AnswersTypes (reads params a (from src ws i) fresh) fresh src ws t n r t'
-    some_by t (typeds.Nodes r) t' k =
+    some_by t (Ok (Whole r)) t' k =
         record { row = k.row; gave = list_any begins tt k.gave; many = k.many; laid = k.laid; ready = k.ready }
-    some_by t (typeds.Half r) t' k =
+    some_by t (Ok (Half r)) t' k =
         record {
           row = k.row;
           gave = list_any begins tt k.gave;
@@ -271,9 +264,9 @@ module _ (src : Text) (ws : List ℕ) (a : ℕ) {i n : ℕ} (g : Ready ws i n) w
           ready = k.ready;
           shr = k.shr;
         }
-    some_by t (typeds.Refused e) t' f = list_fails begins tt f
+    some_by t (Err e) t' f = list_fails begins tt f
 
-    pub params_some : {t : List ℕ} {r : Typeds} {t' : List ℕ}
+    pub params_some : {t : List ℕ} {r : Result (Typed Nodes) Refusal} {t' : List ℕ}
         → ListsTypes (whole param more_params a (from src ws i) fresh) fresh src ws t n r t'
         → ListsTypes (reads params a (from src ws i) fresh) fresh src ws t n r t'
     params_some {t} {r} {t'} k = record { by = some_by t r t' k.by }
@@ -291,31 +284,31 @@ on_all {t = t} {n} {r} {t'} k =
     }
 
 -- A LIST OF PARAMETERS
-module _ (src : Text) (ws : List ℕ) (a : ℕ) {i n : ℕ} (g : Ready ws i n) (t : List ℕ) {y : Expected}
+module _ (src : Text) (ws : List ℕ) (a : ℕ) {i n : ℕ} (g : Ready ws i n) (t : List ℕ) {y : Result TokenPos Refusal}
     (v : Expects ws i (code LParen) y) where
   list_start : After parens 0 src ws i a i fresh t n t n
   list_start = starts src ws param_list parens a g refl refl
 
-  pub list_unopened : {u : Refusal} → y ≡ expected.Refused u → Failed (reads param_list a (from src ws i) fresh) u
+  pub list_unopened : {u : Refusal} → y ≡ Err u → Failed (reads param_list a (from src ws i) fresh) u
   list_unopened z = unexpected (code LParen) list_start tt tt (λ i. refl) z v
 
-  module _ {b : TokenPos} (z : y ≡ expected.Next b) where
+  module _ {b : TokenPos} (z : y ≡ Ok b) where
     list_open : After parens 1 src ws i a b.0 fresh t n t n
     list_open = expects (code LParen) list_start tt (λ u. u) z v
 
     pub open_ready : Ready ws b.0 n
     open_ready = list_open.ready
 
-    module _ {y₁ : Typeds} {t₁ : List ℕ}
+    module _ {y₁ : Result (Typed Nodes) Refusal} {t₁ : List ℕ}
         (v₁ : ListsTypes (reads params a (from src ws b.0) fresh) fresh src ws t n y₁ t₁) where
-      pub list_refused : {u : Refusal} → y₁ ≡ typeds.Refused u → Failed (reads param_list a (from src ws i) fresh) u
+      pub list_refused : {u : Refusal} → y₁ ≡ Err u → Failed (reads param_list a (from src ws i) fresh) u
       list_refused z₁ = unphrased list_open (no_types_of z₁ v₁)
 
       -- the first closer of a `>>` closed the last type, and the second is no `)`
-      pub half_place : {m : Nodes} → y₁ ≡ typeds.Half m → Ready ws m.at.0 m.no.0
+      pub half_place : {m : Nodes} → y₁ ≡ Ok (Half m) → Ready ws m.at.0 m.no.0
       half_place z₁ = (types_half_of z₁ v₁).ready
 
-      pub list_halved : {m : Nodes} {u : Refusal} → y₁ ≡ typeds.Half m
+      pub list_halved : {m : Nodes} {u : Refusal} → y₁ ≡ Ok (Half m)
           → u ≡ half_err ws m.at.0 (refusal_code expected_token) (code RParen)
           → Failed (reads param_list a (from src ws i) fresh) u
       list_halved {m} z₁ e =
@@ -328,7 +321,7 @@ module _ (src : Text) (ws : List ℕ) (a : ℕ) {i n : ℕ} (g : Ready ws i n) (
             says = e ∙ paren_shown src ws m.at.0;
           }
 
-      module _ {m : Nodes} (z₁ : y₁ ≡ typeds.Nodes m) where
+      module _ {m : Nodes} (z₁ : y₁ ≡ Ok (Whole m)) where
         l : TookAll (reads params a (from src ws b.0) fresh) src ws t n m t₁
         l = on_all (types_of z₁ v₁)
 
@@ -338,11 +331,11 @@ module _ (src : Text) (ws : List ℕ) (a : ℕ) {i n : ℕ} (g : Ready ws i n) (
         pub full_ready : Ready ws m.at.0 m.no.0
         full_ready = list_full.ready
 
-        module _ {y₂ : Expected} (v₂ : Expects ws m.at.0 (code RParen) y₂) where
-          pub list_unclosed : {u : Refusal} → y₂ ≡ expected.Refused u → Failed (reads param_list a (from src ws i) fresh) u
+        module _ {y₂ : Result TokenPos Refusal} (v₂ : Expects ws m.at.0 (code RParen) y₂) where
+          pub list_unclosed : {u : Refusal} → y₂ ≡ Err u → Failed (reads param_list a (from src ws i) fresh) u
           list_unclosed z₂ = unexpected (code RParen) list_full tt tt (λ i. refl) z₂ v₂
 
-          pub list_closed : {c : TokenPos} {r : Nodes} → y₂ ≡ expected.Next c → r.at.0 ≡ c.0 → r.no.0 ≡ m.no.0 → r.count ≡ m.count → TookAll (reads param_list a (from src ws i) fresh) src ws t n r t₁
+          pub list_closed : {c : TokenPos} {r : Nodes} → y₂ ≡ Ok c → r.at.0 ≡ c.0 → r.no.0 ≡ m.no.0 → r.count ≡ m.count → TookAll (reads param_list a (from src ws i) fresh) src ws t n r t₁
           list_closed {c} {r} z₂ e f h =
               let k : After parens 3 src ws i a c.0 (grown fresh l.acc.row) t n t₁ m.no.0 = expects (code RParen) list_full tt (λ u. u) z₂ v₂ in
               record {

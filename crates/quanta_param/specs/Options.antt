@@ -1,6 +1,6 @@
 -- Parts that may be missing: what a reader of them answers and writes, whatever is left before them.
 -- Assumes nothing.
-use Rattle.std.specs.Prelude.{◌≡◌, List, ◌⊎◌, ℕ, ◌+◌}
+use Rattle.std.specs.Prelude.{◌≡◌, List, ◌⊎◌, ℕ, ◌+◌, Err, None, Ok, Option, Result, Some}
 use Rattle.grammar.specs.Records.{Acc, Rec, Row, none, put, Reach, widen, span}
 use Rattle.grammar.specs.Fused.{Outcome, left}
 use Rattle.quanta_grammar.specs.Productions.{Symbol}
@@ -11,9 +11,8 @@ use Rattle.quanta_cursor.specs.Tokens.{kind_at, from, Ready}
 use Rattle.quanta_cursor.specs.Tree.{rec_of, put_rec, Laid}
 use Rattle.quanta_cursor.specs.Answers.{Failed}
 use Rattle.quanta_param.specs.declared.decl.Eaten.{Eaten}
-use Rattle.quanta_param.specs.declared.decl.Opted.{Opted}
-use Rattle.quanta_param.specs.declared.decl.Opted.TheVariants as opted
 use Rattle.quanta_grammar.specs.Refine.{Text}
+use Rattle.quanta_cursor.specs.declared.parser.Refusal.{Refusal}
 
 -- a token of the kind k stands at i, and r is behind it, with the flag f; or it is missing, and r is at i, without a flag
 abbrev pub Eats : List ℕ → ℕ → ℕ → ℕ → Eaten → Type 0
@@ -33,17 +32,17 @@ pub record TookOpt (o : Outcome) (x : Acc) (y : Reach) (f : ℕ) (src : Text) (w
   pub ready : Ready ws r.at.0 r.no.0
 
 -- where it is missing, nothing is left and nothing is written
-abbrev pub AnswersOpt : Outcome → Acc → Reach → ℕ → Text → List ℕ → ℕ → List ℕ → ℕ → Opted → List ℕ → Type 0
-AnswersOpt o x y f src ws i t n opted.Missing t' = (o ≡ left x (from src ws i)) × (t' ≡ t)
-AnswersOpt o x y f src ws i t n (opted.Node r) t' = TookOpt o x y f src ws t n r t'
-AnswersOpt o x y f src ws i t n (opted.Refused e) t' = Failed o e
+abbrev pub AnswersOpt : Outcome → Acc → Reach → ℕ → Text → List ℕ → ℕ → List ℕ → ℕ → Result (Option Node) Refusal → List ℕ → Type 0
+AnswersOpt o x y f src ws i t n Ok None t' = (o ≡ left x (from src ws i)) × (t' ≡ t)
+AnswersOpt o x y f src ws i t n (Ok (Some r)) t' = TookOpt o x y f src ws t n r t'
+AnswersOpt o x y f src ws i t n (Err e) t' = Failed o e
 
 pub record MeetsOpt (o : Outcome) (x : Acc) (y : Reach) (f : ℕ) (src : Text) (ws : List ℕ) (i : ℕ) (t : List ℕ)
-    (n : ℕ) (r : Opted) (t' : List ℕ) : Type 0 where
+    (n : ℕ) (r : Result (Option Node) Refusal) (t' : List ℕ) : Type 0 where
   pub by : AnswersOpt o x y f src ws i t n r t'
 
 -- a phrase of s at the token i that may be missing, over the words t from the record n on: the answer r, and the words t'
-abbrev pub Opts : Text → Symbol → Reach → ℕ → List ℕ → ℕ → ℕ → ℕ → List ℕ → Opted → List ℕ → Type 0
+abbrev pub Opts : Text → Symbol → Reach → ℕ → List ℕ → ℕ → ℕ → ℕ → List ℕ → Result (Option Node) Refusal → List ℕ → Type 0
 Opts src s y f ws i n a t r t' = (x : Acc) → MeetsOpt (reads s a (from src ws i) x) x y f src ws i t n r t'
 
 -- a node that ends where `last` does: its record is written behind those so far

@@ -1,5 +1,6 @@
 -- Imports and contracts one after the other: what is under way at each turn of their loops, and what is left at the end.
 -- Assumes nothing.
+use Rattle.std.specs.Prelude.{Err, Ok, Result}
 use mathlib.Core.Path.{◌≡◌, refl, ap, sym, subst, ◌∙◌}
 use mathlib.Core.Bool.{not}
 use mathlib.Core.List.{List, [], ◌∷◌}
@@ -29,8 +30,6 @@ use Rattle.quanta_cursor.proofs.Places.{from_at, laid_none, laid_glue, took_read
 use Rattle.quanta_cursor.proofs.Meeting.{failed_onward}
 use Rattle.quanta_cursor.proofs.Lists.{took_more}
 use Rattle.quanta_parser.specs.declared.program.Run.{Run}
-use Rattle.quanta_parser.specs.declared.program.Ran.{Ran}
-use Rattle.quanta_parser.specs.declared.program.Ran.TheVariants as ran
 use Rattle.quanta_parser.specs.Runs.{onto, last_or, TookRun, AnswersRun, MeetsRun}
 use Rattle.quanta_grammar.specs.Refine.{Text}
 
@@ -58,12 +57,12 @@ pub contracts_law : Law contracts contract (code Contract)
 contracts_law = law_by contracts contract (code Contract) tt tt contracts_loop
 
 -- an answer that is taken apart
-module _ {o : Outcome} {x : Acc} {src : Text} {ws t : List ℕ} {n : ℕ} {s : Span} {r : Ran} {t' : List ℕ} where
-  pub run_of : {m : Run} → r ≡ ran.Run m → MeetsRun o x src ws t n s r t' → TookRun o x src ws t n s m t'
-  run_of z m = subst (λ (r : Ran). AnswersRun o x src ws t n s r t') z m.by
+module _ {o : Outcome} {x : Acc} {src : Text} {ws t : List ℕ} {n : ℕ} {s : Span} {r : Result Run Refusal} {t' : List ℕ} where
+  pub run_of : {m : Run} → r ≡ Ok m → MeetsRun o x src ws t n s r t' → TookRun o x src ws t n s m t'
+  run_of z m = subst (λ (r : Result Run Refusal). AnswersRun o x src ws t n s r t') z m.by
 
-  pub run_failed_of : {e : Refusal} → r ≡ ran.Refused e → MeetsRun o x src ws t n s r t' → Failed o e
-  run_failed_of z m = subst (λ (r : Ran). AnswersRun o x src ws t n s r t') z m.by
+  pub run_failed_of : {e : Refusal} → r ≡ Err e → MeetsRun o x src ws t n s r t' → Failed o e
+  run_failed_of z m = subst (λ (r : Result Run Refusal). AnswersRun o x src ws t n s r t') z m.by
 
 -- A LIST UNDER WAY: o is what comes of the rest of it at p, on top of x and of c records that are written; z is the last one's span, or else s
 pub record Rolls (l : Symbol) (o : Outcome) (src : Text) (ws t : List ℕ) (n : ℕ) (s : Span) (x : Acc) (a p q c : ℕ) (z : Span) (tree : List ℕ) : Type 0 where

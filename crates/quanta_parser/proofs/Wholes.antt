@@ -1,5 +1,6 @@
 -- The whole readings: each way through a call.
 -- Assumes nothing.
+use Rattle.std.specs.Prelude.{Err, Ok, Result}
 use mathlib.Core.Path.{◌≡◌, refl, ap, ◌∙◌}
 use mathlib.Core.Bool.{not}
 use mathlib.Core.List.{List, [], ◌∷◌}
@@ -22,10 +23,6 @@ use Rattle.quanta_cursor.specs.declared.parser.TokenPos.{TokenPos}
 use Rattle.quanta_cursor.specs.declared.parser.Span.{Span}
 use Rattle.quanta_cursor.specs.declared.parser.Node.{Node}
 use Rattle.quanta_cursor.specs.declared.parser.Refusal.{Refusal}
-use Rattle.quanta_cursor.specs.declared.parser.Parsed.{Parsed}
-use Rattle.quanta_cursor.specs.declared.parser.Parsed.TheVariants as parsed
-use Rattle.quanta_cursor.specs.declared.parser.Expected.{Expected}
-use Rattle.quanta_cursor.specs.declared.parser.Expected.TheVariants as expected
 use Rattle.quanta_cursor.specs.Tokens.{size, kind_at, start_at, stop_at, from, tok_at, Closed, Ready}
 use Rattle.quanta_cursor.specs.Tree.{rec_of, put_rec}
 use Rattle.quanta_cursor.specs.Answers.{single, Failed, Took, Reads}
@@ -39,8 +36,6 @@ use Rattle.quanta_cursor.proofs.Under.{Under, starts, folded, unfolded}
 use Rattle.quanta_type.specs.Halves.{half_from, half_err, TookHalf}
 use Rattle.quanta_type.proofs.Halves.{bring_any, eof_tail, eof_shown}
 use Rattle.quanta_parser.specs.declared.program.Run.{Run}
-use Rattle.quanta_parser.specs.declared.program.Ran.{Ran}
-use Rattle.quanta_parser.specs.declared.program.Ran.TheVariants as ran
 use Rattle.quanta_parser.specs.Runs.{onto, last_or, TookRun, Runs}
 use Rattle.quanta_parser.specs.Whole.{TookWhole, MeetsWhole}
 use Rattle.quanta_parser.proofs.Running.{run_of, run_failed_of}
@@ -69,15 +64,15 @@ expr_call_lem = record { heedless = tt; begins = λ src ws h. begin src ws 0 h e
 pub type_call_lem : Calls type_call type
 type_call_lem = record { heedless = tt; begins = λ src ws h. begin src ws 0 h type_call whole_type allowance fresh refl refl }
 
-module _ {call s : Symbol} (law : Calls call s) (src : Text) {ws t : List ℕ} (g : Ready ws 0 0) {y : Parsed}
+module _ {call s : Symbol} (law : Calls call s) (src : Text) {ws t : List ℕ} (g : Ready ws 0 0) {y : Result Node Refusal}
     {t' : List ℕ} (v : Reads src s ws 0 0 allowance t y t') where
   abbrev all : Outcome
   all = reads call allowance (from src ws 0) fresh
 
-  pub whole_bad : {u : Refusal} → y ≡ parsed.Refused u → MeetsWhole all t (parsed.Refused u) t'
+  pub whole_bad : {u : Refusal} → y ≡ Err u → MeetsWhole all t (Err u) t'
   whole_bad z = record { by = fails (law.begins src ws g.inside) (failed_of z v) }
 
-  module _ {m : Node} (z : y ≡ parsed.Node m) where
+  module _ {m : Node} (z : y ≡ Ok m) where
     phrase : Took (reads s allowance (from src ws 0) fresh) src ws t 0 m t'
     phrase = took_of z v
 
@@ -87,11 +82,11 @@ module _ {call s : Symbol} (law : Calls call s) (src : Text) {ws t : List ℕ} (
     pub whole_inside : m.at.0 < size ws
     whole_inside = phrase.inside
 
-    module _ {y₁ : Expected} (v₁ : ExpectsEof ws m.at.0 y₁) where
-      pub whole_more : {u : Refusal} → y₁ ≡ expected.Refused u → MeetsWhole all t (parsed.Refused u) t'
+    module _ {y₁ : Result TokenPos Refusal} (v₁ : ExpectsEof ws m.at.0 y₁) where
+      pub whole_more : {u : Refusal} → y₁ ≡ Err u → MeetsWhole all t (Err u) t'
       whole_more e = let w = more_of e v₁ in record { by = lack (bring (law.begins src ws g.inside) law.heedless phrase.gave) tt g.closed whole_inside (not_one (code Eof) w.0) tt w.1 }
 
-      pub whole_met : {p : TokenPos} → y₁ ≡ expected.Next p → MeetsWhole all t (parsed.Node m) t'
+      pub whole_met : {p : TokenPos} → y₁ ≡ Ok p → MeetsWhole all t (Ok m) t'
       whole_met e =
           let w = (eof_of e v₁).0 in
           record {
@@ -106,7 +101,7 @@ module _ {call s : Symbol} (law : Calls call s) (src : Text) {ws t : List ℕ} (
 pub type_halved : (src : Text) {ws t : List ℕ} → Ready ws 0 0 → {m : Node} {t' : List ℕ}
     → TookHalf (reads type allowance (from src ws 0) fresh) src ws t 0 m t' → {u : Refusal}
     → u ≡ half_err ws m.at.0 (refusal_code token_after_the_end) 0
-    → MeetsWhole (reads type_call allowance (from src ws 0) fresh) t (parsed.Refused u) t'
+    → MeetsWhole (reads type_call allowance (from src ws 0) fresh) t (Err u) t'
 type_halved src {ws} g {m} k e =
     record {
       by = record {
@@ -145,11 +140,11 @@ module _ (src : Text) (ws : List ℕ) (g : Ready ws 0 0) (t : List ℕ) where
   begun : After 0 0 fresh t 0
   begun = starts src ws program_call whole_program allowance g refl refl
 
-  module _ {s : Span} {y : Ran} {t₁ : List ℕ} (v : Runs src imports ws 0 0 allowance s t y t₁) where
-    pub imports_bad : {u : Refusal} → y ≡ ran.Refused u → Failed program u
+  module _ {s : Span} {y : Result Run Refusal} {t₁ : List ℕ} (v : Runs src imports ws 0 0 allowance s t y t₁) where
+    pub imports_bad : {u : Refusal} → y ≡ Err u → Failed program u
     imports_bad z = unfolded begun (run_failed_of z (v fresh))
 
-    module _ {i : Run} (z : y ≡ ran.Run i) where
+    module _ {i : Run} (z : y ≡ Ok i) where
       first : TookRun (reads imports allowance (from src ws 0) fresh) fresh src ws t 0 s i t₁
       first = run_of z (v fresh)
 
@@ -162,11 +157,11 @@ module _ (src : Text) (ws : List ℕ) (g : Ready ws 0 0) (t : List ℕ) where
       pub imported_ready : Ready ws i.at.0 i.no.0
       imported_ready = first.ready
 
-      module _ {y₁ : Ran} {t₂ : List ℕ} (v₁ : Runs src contracts ws i.at.0 i.no.0 allowance i.span t₁ y₁ t₂) where
-        pub contracts_bad : {u : Refusal} → y₁ ≡ ran.Refused u → Failed program u
+      module _ {y₁ : Result Run Refusal} {t₂ : List ℕ} (v₁ : Runs src contracts ws i.at.0 i.no.0 allowance i.span t₁ y₁ t₂) where
+        pub contracts_bad : {u : Refusal} → y₁ ≡ Err u → Failed program u
         contracts_bad z = unfolded behind_imports (run_failed_of z (v₁ imported))
 
-        module _ {c : Run} (z₁ : y₁ ≡ ran.Run c) where
+        module _ {c : Run} (z₁ : y₁ ≡ Ok c) where
           second : TookRun (reads contracts allowance (from src ws i.at.0) imported) imported src ws t₁ i.no.0 i.span c t₂
           second = run_of z₁ (v₁ imported)
 
@@ -182,11 +177,11 @@ module _ (src : Text) (ws : List ℕ) (g : Ready ws 0 0) (t : List ℕ) where
           pub program_few : i.count + c.count < 4294967296
           program_few = let x = run_few first in let y = run_few second in omega (arith, second.ready.fits, second.ready.inside, g.closed.few)
 
-          module _ {y₂ : Expected} (v₂ : ExpectsEof ws c.at.0 y₂) where
-            pub program_more : {u : Refusal} → y₂ ≡ expected.Refused u → Failed program u
+          module _ {y₂ : Result TokenPos Refusal} (v₂ : ExpectsEof ws c.at.0 y₂) where
+            pub program_more : {u : Refusal} → y₂ ≡ Err u → Failed program u
             program_more e = let w = more_of e v₂ in lack behind_contracts.doing tt g.closed second.ready.inside (not_one (code Eof) w.0) tt w.1
 
-            module _ {p : TokenPos} (e : y₂ ≡ expected.Next p) where
+            module _ {p : TokenPos} (e : y₂ ≡ Ok p) where
               pub program_small : p.0 < 4294967296
               program_small = let w = (eof_of e v₂).1 in omega (arith, second.ready.inside, g.closed.few)
 

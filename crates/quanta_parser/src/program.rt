@@ -14,8 +14,8 @@ ghost use Rattle.quanta_grammar.specs.Refine.{Text, text};
 
 use quanta_cursor::node;
 use quanta_cursor::parser::{
-    Expected, Listed, Node, Nodes, Parsed, RecordNo, Refusal, Span, TokenPos, bump, close,
-    close_semi, expect, expect_ident, expect_import_name, expect_str, peek, peek_span,
+    Node, Nodes, Record, RecordNo, Refusal, Span, TokenPos, bump, close, close_semi, expect,
+    expect_ident, expect_import_name, expect_str, peek, peek_span,
 };
 use quanta_item::decl::contract_item;
 use quanta_token::edition::Edition;
@@ -30,15 +30,14 @@ pub struct Run {
     pub span: Span,
 }
 
-// The answer of a reader of them.
-#[derive(Clone, Copy)]
-pub enum Ran {
-    Run(Run),
-    Refused(Refusal),
-}
-
 // The imports of a program, and `span` where there is none.
-pub fn imports(tokens: &[u32], tree: &mut [u32], at: TokenPos, no: RecordNo, span: Span) -> Ran
+pub fn imports(
+    tokens: &[u32],
+    tree: &mut [u32],
+    at: TokenPos,
+    no: RecordNo,
+    span: Span,
+) -> Result<Run, Refusal>
     requires { Ready tokens.now at.0 no.0 }
     ensures { (src : Text) (a : ℕ) → Runs src imports tokens.now at.0 no.0 a span tree.old result tree.new }
 {
@@ -48,8 +47,8 @@ pub fn imports(tokens: &[u32], tree: &mut [u32], at: TokenPos, no: RecordNo, spa
     let mut count: u32 = 0;
     while peek(tokens, at) == token::IMPORT {
         match import_decl(tokens, tree, at, no) {
-            Parsed::Refused(e) => return Ran::Refused(e),
-            Parsed::Node(import) => {
+            Err(e) => return Err(e),
+            Ok(import) => {
                 at = import.at;
                 no = import.no;
                 span = import.span;
@@ -57,7 +56,7 @@ pub fn imports(tokens: &[u32], tree: &mut [u32], at: TokenPos, no: RecordNo, spa
             }
         }
     }
-    Ran::Run(Run {
+    Ok(Run {
         at: at,
         no: no,
         count: count,
@@ -75,7 +74,7 @@ pub fn contracts(
     no: RecordNo,
     allowance: usize,
     span: Span,
-) -> Ran
+) -> Result<Run, Refusal>
     requires { Ready tokens.now at.0 no.0 }
     ensures { Runs (text edition src.now) contracts tokens.now at.0 no.0 allowance span tree.old result tree.new }
 {
@@ -85,8 +84,8 @@ pub fn contracts(
     let mut count: u32 = 0;
     while peek(tokens, at) == token::CONTRACT {
         match contract(edition, src, tokens, tree, at, no, allowance) {
-            Parsed::Refused(e) => return Ran::Refused(e),
-            Parsed::Node(contract) => {
+            Err(e) => return Err(e),
+            Ok(contract) => {
                 at = contract.at;
                 no = contract.no;
                 span = contract.span;
@@ -94,7 +93,7 @@ pub fn contracts(
             }
         }
     }
-    Ran::Run(Run {
+    Ok(Run {
         at: at,
         no: no,
         count: count,
@@ -102,26 +101,29 @@ pub fn contracts(
     })
 }
 
-fn import_decl(tokens: &[u32], tree: &mut [u32], at: TokenPos, no: RecordNo) -> Parsed
+fn import_decl(
+    tokens: &[u32],
+    tree: &mut [u32],
+    at: TokenPos,
+    no: RecordNo,
+) -> Result<Node, Refusal>
     requires { Ready tokens.now at.0 no.0 × (kind_at tokens.now at.0 ≡ code Import) }
     ensures { (src : Text) (a : ℕ) → Reads src import tokens.now at.0 no.0 a tree.old result tree.new }
 {
     match expect(tokens, bump(at), token::LBRACE) {
-        Expected::Refused(e) => Parsed::Refused(e),
-        Expected::Next(inside) => match import_names(tokens, tree, inside, no) {
-            Listed::Refused(e) => Parsed::Refused(e),
-            Listed::Nodes(names) => {
+        Err(e) => Err(e),
+        Ok(inside) => match import_names(tokens, tree, inside, no) {
+            Err(e) => Err(e),
+            Ok(names) => {
                 let end = names.at;
                 let no = names.no;
                 match expect(tokens, end, token::RBRACE) {
-                    Expected::Refused(e) => Parsed::Refused(e),
-                    Expected::Next(from) => match expect(tokens, from, token::FROM) {
-                        Expected::Refused(e) => Parsed::Refused(e),
-                        Expected::Next(path) => match expect_str(tokens, tree, path, no) {
-                            Parsed::Refused(e) => Parsed::Refused(e),
-                            Parsed::Node(path) => {
-                                close_import(tokens, tree, at, names.count + 1, path)
-                            }
+                    Err(e) => Err(e),
+                    Ok(from) => match expect(tokens, from, token::FROM) {
+                        Err(e) => Err(e),
+                        Ok(path) => match expect_str(tokens, tree, path, no) {
+                            Err(e) => Err(e),
+                            Ok(path) => { close_import(tokens, tree, at, names.count + 1, path) }
                         },
                     },
                 }
@@ -130,27 +132,32 @@ fn import_decl(tokens: &[u32], tree: &mut [u32], at: TokenPos, no: RecordNo) -> 
     }
 }
 
-fn import_names(tokens: &[u32], tree: &mut [u32], at: TokenPos, no: RecordNo) -> Listed
+fn import_names(
+    tokens: &[u32],
+    tree: &mut [u32],
+    at: TokenPos,
+    no: RecordNo,
+) -> Result<Nodes, Refusal>
     requires { Ready tokens.now at.0 no.0 }
     ensures { WordList type_name more_imports tokens.now tree.old at.0 no.0 result tree.new }
 {
     match expect_import_name(tokens, tree, at, no) {
-        Parsed::Refused(e) => Listed::Refused(e),
-        Parsed::Node(first) => {
+        Err(e) => Err(e),
+        Ok(first) => {
             let mut at = first.at;
             let mut no = first.no;
             let mut count: u32 = 1;
             loop {
                 if peek(tokens, at) != token::COMMA {
-                    return Listed::Nodes(Nodes {
+                    return Ok(Nodes {
                         at: at,
                         no: no,
                         count: count,
                     });
                 }
                 match expect_import_name(tokens, tree, bump(at), no) {
-                    Parsed::Refused(e) => return Listed::Refused(e),
-                    Parsed::Node(name) => {
+                    Err(e) => return Err(e),
+                    Ok(name) => {
                         at = name.at;
                         no = name.no;
                         count += 1;
@@ -162,14 +169,32 @@ fn import_names(tokens: &[u32], tree: &mut [u32], at: TokenPos, no: RecordNo) ->
 }
 
 // The `;` behind the path of the import whose keyword is the token at `own`.
-fn close_import(tokens: &[u32], tree: &mut [u32], own: TokenPos, count: u32, path: Node) -> Parsed
+fn close_import(
+    tokens: &[u32],
+    tree: &mut [u32],
+    own: TokenPos,
+    count: u32,
+    path: Node,
+) -> Result<Node, Refusal>
     requires { Ready tokens.now path.at.0 path.no.0 × (own.0 < size tokens.now) }
     ensures { Closes tokens.now tree.old (code Semi) path.at.0 path.no.0 (node_code import_node) 0 own.0 (span_at tokens.now own.0) count result tree.new }
 {
     let at = path.at;
     let no = path.no;
     let span = peek_span(tokens, own);
-    close_semi(tokens, tree, at, no, node::IMPORT, 0, own, span, count)
+    close_semi(
+        tokens,
+        tree,
+        at,
+        no,
+        Record {
+            kind: node::IMPORT,
+            flag: 0,
+            own,
+            span,
+            children: count,
+        },
+    )
 }
 
 fn contract(
@@ -180,21 +205,21 @@ fn contract(
     at: TokenPos,
     no: RecordNo,
     allowance: usize,
-) -> Parsed
+) -> Result<Node, Refusal>
     requires { Ready tokens.now at.0 no.0 × (kind_at tokens.now at.0 ≡ code Contract) }
     ensures { Reads (text edition src.now) contract tokens.now at.0 no.0 allowance tree.old result tree.new }
 {
     match expect_ident(tokens, tree, bump(at), no) {
-        Parsed::Refused(e) => Parsed::Refused(e),
-        Parsed::Node(name) => {
+        Err(e) => Err(e),
+        Ok(name) => {
             let open = name.at;
             let no = name.no;
             match expect(tokens, open, token::LBRACE) {
-                Expected::Refused(e) => Parsed::Refused(e),
-                Expected::Next(inside) => {
+                Err(e) => Err(e),
+                Ok(inside) => {
                     match items(edition, src, tokens, tree, inside, no, allowance) {
-                        Listed::Refused(e) => Parsed::Refused(e),
-                        Listed::Nodes(items) => close_contract(tokens, tree, at, items),
+                        Err(e) => Err(e),
+                        Ok(items) => close_contract(tokens, tree, at, items),
                     }
                 }
             }
@@ -210,7 +235,7 @@ fn items(
     at: TokenPos,
     no: RecordNo,
     allowance: usize,
-) -> Listed
+) -> Result<Nodes, Refusal>
     requires { Ready tokens.now at.0 no.0 }
     ensures { Lists (text edition src.now) items tokens.now at.0 no.0 allowance tree.old result tree.new }
 {
@@ -219,15 +244,15 @@ fn items(
     let mut count: u32 = 0;
     while peek(tokens, at) != token::RBRACE && peek(tokens, at) != token::EOF {
         match contract_item(edition, src, tokens, tree, at, no, allowance) {
-            Parsed::Refused(e) => return Listed::Refused(e),
-            Parsed::Node(item) => {
+            Err(e) => return Err(e),
+            Ok(item) => {
                 at = item.at;
                 no = item.no;
                 count += 1;
             }
         }
     }
-    Listed::Nodes(Nodes {
+    Ok(Nodes {
         at: at,
         no: no,
         count: count,
@@ -235,7 +260,12 @@ fn items(
 }
 
 // The `}` behind the items of the contract whose keyword is the token at `own`.
-fn close_contract(tokens: &[u32], tree: &mut [u32], own: TokenPos, items: Nodes) -> Parsed
+fn close_contract(
+    tokens: &[u32],
+    tree: &mut [u32],
+    own: TokenPos,
+    items: Nodes,
+) -> Result<Node, Refusal>
     requires { Ready tokens.now items.at.0 items.no.0 × (own.0 < size tokens.now) × (items.count + 1 < 4294967296) }
     ensures { Closes tokens.now tree.old (code RBrace) items.at.0 items.no.0 (node_code contract_node) 0 own.0 (span_at tokens.now own.0) (items.count + 1) result tree.new }
 {
@@ -248,10 +278,12 @@ fn close_contract(tokens: &[u32], tree: &mut [u32], own: TokenPos, items: Nodes)
         token::RBRACE,
         at,
         no,
-        node::CONTRACT,
-        0,
-        own,
-        span,
-        items.count + 1,
+        Record {
+            kind: node::CONTRACT,
+            flag: 0,
+            own,
+            span,
+            children: items.count + 1,
+        },
     )
 }

@@ -1,5 +1,6 @@
 -- The five calls at once: whichever way a call goes, it conforms.
 -- Assumes nothing.
+use Rattle.std.specs.Prelude.{Err, Ok, Result}
 use mathlib.Core.Path.{◌≡◌, refl, ap, sym, subst, ◌∙◌}
 use mathlib.Core.List.{List, []}
 use Prim.Native.Nat.{ℕ, ◌+◌, ◌*◌, ◌/◌, ◌≤◌}
@@ -22,8 +23,6 @@ use Rattle.quanta_grammar.specs.Reading.{allowance, reads}
 use Rattle.quanta_grammar.specs.Refine.{Text, text, Answer as OfTokens, accept, reject, answer_of, answer, refine}
 use Rattle.quanta_grammar.proofs.Steps.{comes, fails}
 use Rattle.quanta_cursor.specs.declared.parser.Refusal.{Refusal}
-use Rattle.quanta_cursor.specs.declared.parser.Parsed.{Parsed}
-use Rattle.quanta_cursor.specs.declared.parser.Parsed.TheVariants as parser
 use Rattle.quanta_cursor.specs.Tokens.{from, Ready}
 use Rattle.quanta_cursor.specs.Tree.{lay}
 use Rattle.quanta_cursor.specs.Answers.{Failed}
@@ -34,6 +33,7 @@ use Rattle.quanta_reading.specs.Reading.{in_room, parsed, lexed, records_of, tre
 use Rattle.quanta_reading.specs.Finish.{ended, kept}
 use Rattle.quanta_reading.proofs.TokenWords.{length_records, from_all, ready, fronts}
 use Rattle.quanta_reading.proofs.Laying.{kept_is}
+use Rattle.quanta_cursor.specs.declared.parser.Node.{Node}
 
 -- WHAT A WHOLE READING ANSWERS is what the grammar answers: its records ..
 pub record Rows (s : Symbol) (src : Text) (ts : List Tok) (t : List ℕ) (n : ℕ) (t' : List ℕ) : Type 0 where
@@ -103,26 +103,26 @@ module _ (ed : Edition) (s : Symbol) (source table : List ℕ) (words : ℕ) whe
     pub cut : 3 * n ≡ length (take (3 * n) tokens')
     cut = omega (arith, ap length front, length_records toks, (accepted ed source table words n (sym z ∙ a)).0.counted)
 
-    by_answer : (t t₁ t₂ : List ℕ) (q : Parsed) (r : Answer) → AnswersWhole (reads s allowance (refine (text ed source) toks) fresh) t q t₁ → length t₁ ≡ length t
+    by_answer : (t t₁ t₂ : List ℕ) (q : Result Node Refusal) (r : Answer) → AnswersWhole (reads s allowance (refine (text ed source) toks) fresh) t q t₁ → length t₁ ≡ length t
         → r ≡ ended (length t₁) n q → t₂ ≡ kept t₁ (ended (length t₁) n q) → Conforms ed s source table words (length t) r tokens' t₂
-    by_answer t t₁ t₂ (parser.Node m) r k l e f =
+    by_answer t t₁ t₂ (Ok m) r k l e f =
         let y = took_rows s (text ed source) toks t m.no.0 t₁ k in
         let b = ltb (length t / 6) (length y.rows) in
-        let j : ended (length t₁) n (parser.Node m) ≡ in_room b n (length y.rows) =
+        let j : ended (length t₁) n (Ok m) ≡ in_room b n (length y.rows) =
         ap (λ (h : ℕ). in_room (ltb (h / 6) m.no.0) n m.no.0) l ∙ ap (λ (h : ℕ). in_room (ltb (length t / 6) h) n h) y.many in
         let i = ap (λ (o : OfTokens). parsed (length t / 6) n o) y.given in
         conforms (length t) (e ∙ j ∙ sym i ∙ answering_as (length t) (lexer.Accepted n) (sym a ∙ z)) p
         (f ∙ ap (kept t₁) j ∙ kept_is t t₁ n y.rows b refl y.words
         ∙ ap (λ (o : OfTokens). tree_words (length t) (records_of o) (in_room b n (length y.rows))) (sym y.given)
         ∙ ap (λ (r : Answer). tree_words (length t) (records_of (answer s (text ed source) toks)) r) (sym (e ∙ j)))
-    by_answer t t₁ t₂ (parser.Refused u) r k l e f =
+    by_answer t t₁ t₂ (Err u) r k l e f =
         let y = failed_rows s (text ed source) toks u k in
         let i = ap (λ (o : OfTokens). parsed (length t / 6) n o) y in
         conforms (length t) (e ∙ sym i ∙ answering_as (length t) (lexer.Accepted n) (sym a ∙ z)) p
         (f ∙ ap (λ (h : ℕ). replicate h 0) l ∙ ap (λ (r : Answer). tree_words (length t) (records_of (answer s (text ed source) toks)) r) (sym e))
 
     -- 0, and 12 to 23
-    pub whole : {t t₁ t₂ : List ℕ} (q : Parsed) {r : Answer} → ReadsWhole (text ed source) s (take (3 * n) tokens') t q t₁ → length t₁ ≡ length t
+    pub whole : {t t₁ t₂ : List ℕ} (q : Result Node Refusal) {r : Answer} → ReadsWhole (text ed source) s (take (3 * n) tokens') t q t₁ → length t₁ ≡ length t
         → (r ≡ ended (length t₁) n q) × (t₂ ≡ kept t₁ (ended (length t₁) n q)) → Conforms ed s source table words (length t) r tokens' t₂
     whole {t} {t₁} {t₂} q {r} m l e =
         by_answer t t₁ t₂ q r

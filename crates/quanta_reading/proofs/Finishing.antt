@@ -1,5 +1,6 @@
 -- What is made of the parser's answer, by the way that it goes.
 -- Assumes nothing.
+use Rattle.std.specs.Prelude.{Err, Ok, Result}
 use mathlib.Core.Path.{◌≡◌, ap, sym, ◌∙◌}
 use mathlib.Core.List.{List, [], ◌++◌, append-nil}
 use Prim.Native.Nat.{ℕ, ◌-◌, ◌*◌, ◌/◌, ◌≤◌, ◌<◌}
@@ -7,22 +8,20 @@ use native.Mathlib.Omega.{arith}
 use borrow.Author.Tests.{lt-ltb, le-ltb}
 use lib.ListN.{length, take, drop, replicate, length-drop, drop_of_length-le}
 use lib.Seq.{take_all}
-use Rattle.quanta_cursor.specs.declared.parser.Node.{Node}
+use Rattle.quanta_cursor.specs.declared.Ok.{Node}
 use Rattle.quanta_cursor.specs.declared.parser.Refusal.{Refusal}
-use Rattle.quanta_cursor.specs.declared.parser.Parsed.{Parsed}
-use Rattle.quanta_cursor.specs.declared.parser.Parsed.TheVariants as parser
 use Rattle.quanta_reading.specs.declared.answer.Answer.{Answer}
 use Rattle.quanta_reading.specs.declared.answer.Answer.TheVariants.{Accepted, Syntax, NoTreeRoom}
 use Rattle.quanta_reading.specs.Finish.{ended, kept}
 
-module _ (t : List ℕ) (n : ℕ) (q : Parsed) where
+module _ (t : List ℕ) (n : ℕ) (q : Result Node Refusal) where
   by : {r : Answer} {t₂ : List ℕ} → r ≡ ended (length t) n q → t₂ ≡ kept t r → (r ≡ ended (length t) n q) × (t₂ ≡ kept t (ended (length t) n q))
   by e w = (e, w ∙ ap (kept t) e)
 
-  pub refused : {e : Refusal} {t₂ : List ℕ} → q ≡ parser.Refused e → t₂ ≡ replicate (length t) 0 → (Syntax e ≡ ended (length t) n q) × (t₂ ≡ kept t (ended (length t) n q))
+  pub refused : {e : Refusal} {t₂ : List ℕ} → q ≡ Err e → t₂ ≡ replicate (length t) 0 → (Syntax e ≡ ended (length t) n q) × (t₂ ≡ kept t (ended (length t) n q))
   refused z w = by (ap (ended (length t) n) (sym z)) w
 
-  module _ {m : Node} (z : q ≡ parser.Node m) where
+  module _ {m : Node} (z : q ≡ Ok m) where
     pub no_room : {t₂ : List ℕ} → length t / 6 < m.no.0 → t₂ ≡ replicate (length t) 0 → (NoTreeRoom m.no.0 ≡ ended (length t) n q) × (t₂ ≡ kept t (ended (length t) n q))
     no_room h w = by (rw (z, lt-ltb (length t / 6) m.no.0 h)) w
 

@@ -6,7 +6,7 @@ ghost use Rattle.std.specs.Prelude.{◌≡◌, length, replicate};
 ghost use Rattle.quanta_reading.specs.Finish.{ended, kept};
 
 use crate::answer::Answer;
-use quanta_cursor::parser::Parsed;
+use quanta_cursor::parser::{Node, Refusal};
 
 // Makes every word 0.
 pub fn clear(tree: &mut [u32])
@@ -40,16 +40,16 @@ pub fn no_token_room(tree: &mut [u32], need: usize) -> Answer
 }
 
 // The answer when the parser has answered of so many tokens: only what no record fills is made 0.
-pub fn finish(tree: &mut [u32], tokens: usize, parsed: Parsed) -> Answer
+pub fn finish(tree: &mut [u32], tokens: usize, parsed: Result<Node, Refusal>) -> Answer
     ensures { (result ≡ ended (length tree.old) tokens parsed)
         × (tree.new ≡ kept tree.old (ended (length tree.old) tokens parsed)) }
 {
     match parsed {
-        Parsed::Refused(e) => {
+        Err(e) => {
             clear(tree);
             Answer::Syntax(e)
         }
-        Parsed::Node(whole) => {
+        Ok(whole) => {
             let no = whole.no;
             let records = no.0;
             if tree.len() / 6 < records {

@@ -1,5 +1,6 @@
 -- A statement without a keyword: an expression by itself, or an assignment to it.
 -- Assumes nothing.
+use Rattle.std.specs.Prelude.{Result}
 use mathlib.Core.Path.{◌≡◌, refl, ap, sym, subst, ◌∙◌}
 use mathlib.Core.Bool.{Bool, true, false}
 use mathlib.Core.List.{List, [], ◌∷◌}
@@ -19,7 +20,6 @@ use Rattle.quanta_grammar.specs.Reading.{reads}
 use Rattle.quanta_grammar.specs.Refine.{Text}
 use Rattle.quanta_cursor.specs.declared.parser.Node.{Node}
 use Rattle.quanta_cursor.specs.declared.parser.Refusal.{Refusal}
-use Rattle.quanta_cursor.specs.declared.parser.Parsed.{Parsed}
 use Rattle.quanta_cursor.specs.Tokens.{size, kind_at, from, fine_at, tok_at, Ready}
 use Rattle.quanta_cursor.specs.Answers.{single, Failed, Took, Meets}
 use Rattle.quanta_cursor.specs.Cursor.{joined, span_at, close_rec, Closes}
@@ -93,7 +93,7 @@ module _ (src : Text) (ws : List ℕ) (at a : ℕ) (h : at < size ws) (w : Keyle
     tail_of x = last (suits plain m.at.0 (over (bring subject_of tt k.gave)) k.inside x)
 
     -- AN EXPRESSION by itself
-    pub expr_met : {r : Parsed} {t' : List ℕ} → Ready ws m.at.0 m.no.0 → (T (has assigns (kind_at ws m.at.0)) → ⊥)
+    pub expr_met : {r : Result Node Refusal} {t' : List ℕ} → Ready ws m.at.0 m.no.0 → (T (has assigns (kind_at ws m.at.0)) → ⊥)
         → Closes ws tree (code Semi) m.at.0 m.no.0 (node_code expr_node) 0 m.at.0 m.span 1 r t' → Meets whole src ws t n r t'
     expr_met g u c =
         meets_as (tail_of (fits_none (has assigns (fine_at src ws m.at.0)) (has lvalues k.top.kind) (fine_out assigns tt src ws m.at.0 u)))
@@ -116,7 +116,7 @@ module _ (src : Text) (ws : List ℕ) (at a : ℕ) (h : at < size ws) (w : Keyle
         pub assign_bad : {e : Refusal} → Failed (reads expr a (from src ws p) fresh) e → Failed whole e
         assign_bad f = failed_as valued (fails assigning f)
 
-        pub assign_met : {l : Node} {tree₂ : List ℕ} {r : Parsed} {t' : List ℕ} → Took (reads expr a (from src ws p) fresh) src ws tree m.no.0 l tree₂ → Ready ws l.at.0 l.no.0
+        pub assign_met : {l : Node} {tree₂ : List ℕ} {r : Result Node Refusal} {t' : List ℕ} → Took (reads expr a (from src ws p) fresh) src ws tree m.no.0 l tree₂ → Ready ws l.at.0 l.no.0
             → Closes ws tree₂ (code Semi) l.at.0 l.no.0 (node_code assign_node) flag m.at.0 m.span 2 r t' → Meets whole src ws t n r t'
         assign_met {l} y g c =
             meets_as valued (seal m.span (code Semi) tt (λ u. u) tt (λ i. refl) (bring assigning tt y.gave) g (laid_glue k.laid y.laid)

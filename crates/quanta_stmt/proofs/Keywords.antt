@@ -1,5 +1,6 @@
 -- The statements that begin with a keyword: each way through their readers.
 -- Assumes nothing.
+use Rattle.std.specs.Prelude.{Err, Ok, Result}
 use mathlib.Core.Path.{◌≡◌, refl, ap, subst, ◌∙◌}
 use mathlib.Core.List.{List, [], ◌∷◌}
 use Prim.Native.Nat.{ℕ, ◌+◌, ◌<◌}
@@ -22,10 +23,6 @@ use Rattle.quanta_cursor.specs.declared.parser.Node.{Node}
 use Rattle.quanta_cursor.specs.declared.parser.Nodes.{Nodes}
 use Rattle.quanta_cursor.specs.declared.parser.Span.{Span}
 use Rattle.quanta_cursor.specs.declared.parser.Refusal.{Refusal}
-use Rattle.quanta_cursor.specs.declared.parser.Parsed.{Parsed}
-use Rattle.quanta_cursor.specs.declared.parser.Parsed.TheVariants as parsed
-use Rattle.quanta_cursor.specs.declared.parser.Expected.{Expected}
-use Rattle.quanta_cursor.specs.declared.parser.Expected.TheVariants as expected
 use Rattle.quanta_cursor.specs.Tokens.{size, kind_at, from, tok_at, Ready}
 use Rattle.quanta_cursor.specs.Tree.{Laid}
 use Rattle.quanta_cursor.specs.Answers.{single, Failed, Took, TookAll, Meets}
@@ -52,18 +49,18 @@ name_kind k t = eqb→eq (leaf_kind outs.leafs k) (node_code name_node) (all_at 
 abbrev naming : List ℕ → ℕ → Acc → Acc
 naming ws p x = record { row = put x.row (leaf_rec ws p (node_code name_node)) none; reach = x.reach; mine = x.mine; sum = x.sum }
 
-module _ {ws : List ℕ} {p n : ℕ} (g : Ready ws p n) {t t₁ : List ℕ} {r : Parsed} (v : Words name (node_code name_node) (refusal_code expected_identifier) ws t p n r t₁) where
-  pub name_ready : {m : Node} → r ≡ parsed.Node m → Ready ws m.at.0 m.no.0
+module _ {ws : List ℕ} {p n : ℕ} (g : Ready ws p n) {t t₁ : List ℕ} {r : Result Node Refusal} (v : Words name (node_code name_node) (refusal_code expected_identifier) ws t p n r t₁) where
+  pub name_ready : {m : Node} → r ≡ Ok m → Ready ws m.at.0 m.no.0
   name_ready z = let y = word_of z v in ready_word g (past_in name (λ u. u) g.closed g.inside y.0) (ap (λ (m : Node). m.at.0) y.1) (ap (λ (m : Node). m.no.0) y.1)
 
-  name_laid : {m : Node} → r ≡ parsed.Node m → Laid t n (put none (leaf_rec ws p (node_code name_node)) none) t₁ m.no.0
+  name_laid : {m : Node} → r ≡ Ok m → Laid t n (put none (leaf_rec ws p (node_code name_node)) none) t₁ m.no.0
   name_laid z = let y = word_of z v in laid_word (leaf_rec ws p (node_code name_node)) laid_none y.2 (ap (λ (m : Node). m.no.0) y.1)
 
   module _ {o : Outcome} {src : Text} {t₀ : Tok} {ms : List Mark} {is : Items grammar} {a : ℕ} {x : Acc} (d : Doing o src ws t₀ (mark word pass apart [] ∷ ms) (one name ∷ is) a p x) where
-    unnamed : {e : Refusal} → r ≡ parsed.Refused e → Failed o e
+    unnamed : {e : Refusal} → r ≡ Err e → Failed o e
     unnamed z = let y = no_word_of z v in lack d tt g.closed g.inside y.0 tt y.1
 
-    named : {m : Node} → r ≡ parsed.Node m → Doing o src ws t₀ ms is a m.at.0 (naming ws p x)
+    named : {m : Node} → r ≡ Ok m → Doing o src ws t₀ ms is a m.at.0 (naming ws p x)
     named {m} z =
         let y = word_of z v in
         subst (λ (k : ℕ). Doing o src ws t₀ ms is a m.at.0 (record { row = put x.row (leaf_rec ws p k) none; reach = x.reach; mine = x.mine; sum = x.sum }))
@@ -71,7 +68,7 @@ module _ {ws : List ℕ} {p n : ℕ} (g : Ready ws p n) {t t₁ : List ℕ} {r :
         (eat d tt g.inside y.0 (ap (λ (m : Node). m.at.0) y.1))
 
 -- behind a token that was expected
-pub next_ready : {ws : List ℕ} {i n : ℕ} (k : ℕ) {x : Expected} {p : TokenPos} → (T (eqb k (code Eof)) → ⊥) → Ready ws i n → x ≡ expected.Next p → Expects ws i k x → Ready ws p.0 n
+pub next_ready : {ws : List ℕ} {i n : ℕ} (k : ℕ) {x : Result TokenPos Refusal} {p : TokenPos} → (T (eqb k (code Eof)) → ⊥) → Ready ws i n → x ≡ Ok p → Expects ws i k x → Ready ws p.0 n
 next_ready k w g z v = let y = next_of z v in ready_past g (past_as k w g.closed g.inside y.0) y.1
 
 module _ (src : Text) (ws : List ℕ) (at a : ℕ) {p : ℕ} (h : at < size ws) (q : p ≡ at + 1) where
@@ -92,13 +89,13 @@ module _ (src : Text) (ws : List ℕ) (at a : ℕ) {p : ℕ} (h : at < size ws) 
     pub guard_bad : {u : Refusal} → Failed (reads expr a (from src ws p) fresh) u → Failed whole u
     guard_bad f = fails guarding f
 
-    pub guard_met : {t : List ℕ} {n : ℕ} {m : Node} (s : Span) {r : Parsed} {t₂ t₃ : List ℕ} → Ready ws p n → Took (reads expr a (from src ws p) fresh) src ws t n m t₂ → s ≡ span_at ws at
+    pub guard_met : {t : List ℕ} {n : ℕ} {m : Node} (s : Span) {r : Result Node Refusal} {t₂ t₃ : List ℕ} → Ready ws p n → Took (reads expr a (from src ws p) fresh) src ws t n m t₂ → s ≡ span_at ws at
         → Closes ws t₂ (code Semi) m.at.0 m.no.0 (node_code guard_node) 0 at s 1 r t₃ → Meets whole src ws t n r t₃
     guard_met {t} {n} {m} s {r} {t₂} {t₃} g k z c =
         seal (span_at ws at) (code Semi) tt (λ u. u) tt (λ i. refl) (bring guarding tt k.gave) (took_ready src expr a g k) k.laid refl
         (subst (λ (s : Span). Closes ws t₂ (code Semi) m.at.0 m.no.0 (node_code guard_node) 0 at s 1 r t₃) z c)
 
-  module _ {n : ℕ} (g : Ready ws p n) {t t₁ : List ℕ} {r : Parsed} (v : Words name (node_code name_node) (refusal_code expected_identifier) ws t p n r t₁) where
+  module _ {n : ℕ} (g : Ready ws p n) {t t₁ : List ℕ} {r : Result Node Refusal} (v : Words name (node_code name_node) (refusal_code expected_identifier) ws t p n r t₁) where
     -- LET
     module _ (e : kind_at ws at ≡ code Let) where
       letting : Doing whole src ws (tok_at src ws at) (mark word pass apart [] ∷ mark nothing pass apart [] ∷ mark nothing pass apart [] ∷ mark nothing pass widens (make (node_code let_node) ∷ []) ∷ []) (one name ∷ one (code Eq ∷ []) ∷ sub expr ∷ one (code Semi ∷ []) ∷ []) a p begun
@@ -106,21 +103,21 @@ module _ (src : Text) (ws : List ℕ) (at a : ℕ) {p : ℕ} (h : at < size ws) 
           eat (begin src ws at h stmt let_stmt a fresh (skips (code Guard ∷ []) guard_stmt w1 bare tt src ws at (not_yet (code Guard) e (λ t. t)) ∙ picks (code Let ∷ []) let_stmt w2 bare tt src ws at (is_one (code Let) e)) refl)
           tt h (is_one (code Let) e) q
 
-      pub let_unnamed : {u : Refusal} → r ≡ parsed.Refused u → Failed whole u
+      pub let_unnamed : {u : Refusal} → r ≡ Err u → Failed whole u
       let_unnamed z = unnamed g v letting z
 
-      module _ {m : Node} (z : r ≡ parsed.Node m) {x : Expected} (w : Expects ws m.at.0 (code Eq) x) where
-        pub let_unset : {u : Refusal} → x ≡ expected.Refused u → Failed whole u
+      module _ {m : Node} (z : r ≡ Ok m) {x : Result TokenPos Refusal} (w : Expects ws m.at.0 (code Eq) x) where
+        pub let_unset : {u : Refusal} → x ≡ Err u → Failed whole u
         let_unset y = let k = name_ready g v z in let l = lacks_of y w in lack (named g v letting z) tt k.closed k.inside (not_one (code Eq) l.0) tt l.1
 
-        module _ {i : TokenPos} (y : x ≡ expected.Next i) where
+        module _ {i : TokenPos} (y : x ≡ Ok i) where
           setting : Doing whole src ws (tok_at src ws at) (mark nothing pass apart [] ∷ mark nothing pass widens (make (node_code let_node) ∷ []) ∷ []) (sub expr ∷ one (code Semi ∷ []) ∷ []) a i.0 (naming ws p begun)
           setting = let l = next_of y w in eat (named g v letting z) tt (name_ready g v z).inside (is_one (code Eq) l.0) l.1
 
           pub let_bad : {u : Refusal} → Failed (reads expr a (from src ws i.0) fresh) u → Failed whole u
           let_bad f = fails setting f
 
-          pub let_met : {k : Node} (s : Span) {f : Parsed} {t₂ t₃ : List ℕ} → Took (reads expr a (from src ws i.0) fresh) src ws t₁ m.no.0 k t₂ → s ≡ span_at ws at
+          pub let_met : {k : Node} (s : Span) {f : Result Node Refusal} {t₂ t₃ : List ℕ} → Took (reads expr a (from src ws i.0) fresh) src ws t₁ m.no.0 k t₂ → s ≡ span_at ws at
               → Closes ws t₂ (code Semi) k.at.0 k.no.0 (node_code let_node) 0 at s 2 f t₃ → Meets whole src ws t n f t₃
           let_met {k} s {f} {t₂} {t₃} l b c =
               seal (span_at ws at) (code Semi) tt (λ u. u) tt (λ i. refl) (bring setting tt l.gave) (took_ready src expr a (next_ready (code Eq) (λ u. u) (name_ready g v z) y w) l) (laid_glue (name_laid g v z) l.laid) refl
@@ -134,25 +131,25 @@ module _ (src : Text) (ws : List ℕ) (at a : ℕ) {p : ℕ} (h : at < size ws) 
           (skips (code Guard ∷ []) guard_stmt w1 bare tt src ws at (not_yet (code Guard) e (λ t. t)) ∙ skips (code Let ∷ []) let_stmt w2 bare tt src ws at (not_yet (code Let) e (λ t. t)) ∙ picks (code Emit ∷ []) emit_stmt [] bare tt src ws at (is_one (code Emit) e)) refl)
           tt h (is_one (code Emit) e) q
 
-      pub emit_unnamed : {u : Refusal} → r ≡ parsed.Refused u → Failed whole u
+      pub emit_unnamed : {u : Refusal} → r ≡ Err u → Failed whole u
       emit_unnamed z = unnamed g v emitting z
 
-      module _ {m : Node} (z : r ≡ parsed.Node m) {x : Expected} (w : Expects ws m.at.0 (code LParen) x) where
-        pub emit_unopened : {u : Refusal} → x ≡ expected.Refused u → Failed whole u
+      module _ {m : Node} (z : r ≡ Ok m) {x : Result TokenPos Refusal} (w : Expects ws m.at.0 (code LParen) x) where
+        pub emit_unopened : {u : Refusal} → x ≡ Err u → Failed whole u
         emit_unopened y = let k = name_ready g v z in let l = lacks_of y w in lack (named g v emitting z) tt k.closed k.inside (not_one (code LParen) l.0) tt l.1
 
-        module _ {i : TokenPos} (y : x ≡ expected.Next i) where
+        module _ {i : TokenPos} (y : x ≡ Ok i) where
           opened : Doing whole src ws (tok_at src ws at) (mark nothing pass apart [] ∷ mark nothing pass apart [] ∷ mark nothing pass widens (make (node_code emit_node) ∷ []) ∷ []) (sub args ∷ one (code RParen ∷ []) ∷ one (code Semi ∷ []) ∷ []) a i.0 (naming ws p begun)
           opened = let l = next_of y w in eat (named g v emitting z) tt (name_ready g v z).inside (is_one (code LParen) l.0) l.1
 
           pub emit_bad : {u : Refusal} → Failed (reads args a (from src ws i.0) fresh) u → Failed whole u
           emit_bad f = fails opened f
 
-          module _ {k : Nodes} {t₂ : List ℕ} (l : TookAll (reads args a (from src ws i.0) fresh) src ws t₁ m.no.0 k t₂) (b : Ready ws k.at.0 k.no.0) {x₂ : Expected} (w₂ : Expects ws k.at.0 (code RParen) x₂) where
-            pub emit_unclosed : {u : Refusal} → x₂ ≡ expected.Refused u → Failed whole u
+          module _ {k : Nodes} {t₂ : List ℕ} (l : TookAll (reads args a (from src ws i.0) fresh) src ws t₁ m.no.0 k t₂) (b : Ready ws k.at.0 k.no.0) {x₂ : Result TokenPos Refusal} (w₂ : Expects ws k.at.0 (code RParen) x₂) where
+            pub emit_unclosed : {u : Refusal} → x₂ ≡ Err u → Failed whole u
             emit_unclosed y₂ = let f = lacks_of y₂ w₂ in lack (bring opened tt l.gave) tt b.closed b.inside (not_one (code RParen) f.0) tt f.1
 
-            pub emit_met : {j : TokenPos} → x₂ ≡ expected.Next j → (s : Span) {f : Parsed} {t₃ : List ℕ} → s ≡ span_at ws at
+            pub emit_met : {j : TokenPos} → x₂ ≡ Ok j → (s : Span) {f : Result Node Refusal} {t₃ : List ℕ} → s ≡ span_at ws at
                 → Closes ws t₂ (code Semi) j.0 k.no.0 (node_code emit_node) 0 at s (k.count + 1) f t₃ → Meets whole src ws t n f t₃
             emit_met {j} y₂ s {f} {t₃} d c =
                 let o = next_of y₂ w₂ in

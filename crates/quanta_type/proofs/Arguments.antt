@@ -1,6 +1,7 @@
 -- A LIST BEHIND COMMAS THAT ONE CALL IN ONE LOOP READS: at the head of the loop an element is to come, the first or one
 -- behind a comma. Stated for elements s and the rest l of their list.
 -- Assumes nothing.
+use Rattle.std.specs.Prelude.{Err, Ok, Result}
 use mathlib.Core.Path.{◌≡◌, refl, sym, ◌∙◌}
 use mathlib.Core.List.{List}
 use Prim.Native.Nat.{ℕ, ◌+◌, ◌<◌, ◌≤◌, zero-le}
@@ -21,12 +22,11 @@ use Rattle.quanta_cursor.specs.Answers.{Failed, Took}
 use Rattle.quanta_cursor.proofs.Places.{took_onward, took_ready, ready_behind}
 use Rattle.quanta_cursor.proofs.Lists.{Commas, Rolls, roll_first, comma_on, comma_bad, comma_stop, took_more}
 use Rattle.quanta_cursor.proofs.Listing.{list_none}
-use Rattle.quanta_type.specs.declared.half.Typed.{Typed}
-use Rattle.quanta_type.specs.declared.half.Typed.TheVariants as typed
-use Rattle.quanta_type.specs.declared.half.Typeds.TheVariants as typeds
 use Rattle.quanta_type.specs.Halves.{TookHalf, Types, TookOnHalf, ListsTypes}
 use Rattle.quanta_type.proofs.Halves.{half_ready, half_first, half_more}
 use Rattle.quanta_type.proofs.Types.{typed_of, half_of, untyped_of}
+use Rattle.quanta_type.specs.declared.half.Typed.TheVariants.{Whole, Half}
+use Rattle.quanta_type.specs.declared.half.Typed.{Typed}
 
 -- what comes of the list on top of x
 abbrev pub whole : Symbol → Symbol → ℕ → List Tok → Acc → Outcome
@@ -78,26 +78,26 @@ pub record Element (s l : Symbol) : Type 0 where
   pub kept : length tree' ≡ length tree
 
 module _ {s l : Symbol} {src : Text} {ws : List ℕ} {a i : ℕ} {t : List ℕ} {n p q c : ℕ} {tree : List ℕ}
-    (v : Awaits s l src ws a i t n p q c tree) {r : Typed} {tree' : List ℕ}
+    (v : Awaits s l src ws a i t n p q c tree) {r : Result (Typed Node) Refusal} {tree' : List ℕ}
     (k : Types src s ws p q a tree r tree') where
   -- or it is refused; or the first closer of a `>>` closed it
-  pub no_element : {u : Refusal} → r ≡ typed.Refused u → {t' : List ℕ} (x : Acc)
-      → ListsTypes (whole s l a (from src ws i) x) x src ws t n (typeds.Refused u) t'
+  pub no_element : {u : Refusal} → r ≡ Err u → {t' : List ℕ} (x : Acc)
+      → ListsTypes (whole s l a (from src ws i) x) x src ws t n (Err u) t'
   no_element z x = record { by = v.bad x (untyped_of z k) }
 
-  pub half_element : {m : Node} → r ≡ typed.Half m → (x : Acc)
+  pub half_element : {m : Node} → r ≡ Ok (Half m) → (x : Acc)
       → ListsTypes (whole s l a (from src ws i) x) x src ws t n
       (typeds.Half (record { at = m.at; no = m.no; count = c + 1 })) tree'
   half_element z x = record { by = v.half x (half_of z k) }
 
   -- so many elements fit a word
-  pub half_few : {m : Node} → r ≡ typed.Half m → c + 1 < 4294967296
+  pub half_few : {m : Node} → r ≡ Ok (Half m) → c + 1 < 4294967296
   half_few z =
       let g = half_ready s a (half_of z k) v.ready in
       let l = (v.half fresh (half_of z k)).laid.next in
       omega (arith, v.few, g.fits, g.inside, g.closed.few, v.ready.fits)
 
-  abbrev pub element : {m : Node} → r ≡ typed.Node m → length tree' ≡ length tree → Element s l
+  abbrev pub element : {m : Node} → r ≡ Ok (Whole m) → length tree' ≡ length tree → Element s l
   element {m} z h =
       record {
         src = src;

@@ -1,5 +1,6 @@
 -- A type, and an argument of one: each way through their readers.
 -- Assumes nothing.
+use Rattle.std.specs.Prelude.{Err, Ok, Result}
 use mathlib.Core.Path.{◌≡◌, refl, ap, sym, subst, ◌∙◌}
 use mathlib.Core.Bool.{Bool, true, false}
 use mathlib.Core.List.{List, [], ◌∷◌}
@@ -28,8 +29,6 @@ use Rattle.quanta_cursor.specs.declared.parser.Span.{Span}
 use Rattle.quanta_cursor.specs.declared.parser.Node.{Node}
 use Rattle.quanta_cursor.specs.declared.parser.Nodes.{Nodes}
 use Rattle.quanta_cursor.specs.declared.parser.Refusal.{Refusal}
-use Rattle.quanta_cursor.specs.declared.parser.Parsed.{Parsed}
-use Rattle.quanta_cursor.specs.declared.parser.Parsed.TheVariants as parsed
 use Rattle.quanta_cursor.specs.Tokens.{size, kind_at, start_at, stop_at, from, fine_at, tok_at, Closed, Ready}
 use Rattle.quanta_cursor.specs.Tree.{Laid, rec_of, put_rec}
 use Rattle.quanta_cursor.specs.Answers.{single, Failed, Took}
@@ -44,14 +43,12 @@ use Rattle.quanta_type.specs.Words.{is_of}
 use Rattle.quanta_cursor.specs.Lists.{TookOn, grown}
 use Rattle.quanta_type.specs.Arguments.{arguments}
 use Rattle.quanta_cursor.proofs.Listing.{list_in, list_fails}
-use Rattle.quanta_type.specs.declared.half.Typed.{Typed}
-use Rattle.quanta_type.specs.declared.half.Typeds.{Typeds}
-use Rattle.quanta_type.specs.declared.half.Typed.TheVariants as typed
-use Rattle.quanta_type.specs.declared.half.Typeds.TheVariants as typeds
 use Rattle.quanta_type.specs.Halves.{front_span, back_span, half_from, type_rec, TypeUpTo, AnswersClose, ClosesType}
 use Rattle.quanta_type.specs.Halves.{TookHalf, AnswersType, MeetsType, TookOnHalf, AnswersTypes, ListsTypes}
 use Rattle.quanta_type.proofs.Halves.{pair_fine, pair_kind_lem, no_pair}
 use Rattle.quanta_type.proofs.Halves.{eat_gt, eat_front, eat_back, lack_closer, bring_last, list_any, half_past}
+use Rattle.quanta_type.specs.declared.half.Typed.TheVariants.{Whole, Half}
+use Rattle.quanta_type.specs.declared.half.Typed.{Typed}
 
 has_one : (k c : ℕ) → T (has (c ∷ []) k) → k ≡ c
 has_one k c t = or_cases (eqb k c) false t (λ z. eqb→eq k c z) (λ z. absurd z)
@@ -134,11 +131,11 @@ module _ (src : Text) (ws : List ℕ) (at a : ℕ) (h : at < size ws) where
             (mark nothing pass widens [] ∷ []) (one closer ∷ []) a r.at.0 (grown fresh k.row)
         listed = list_in opened tt k.gave
 
-        type_by : (m : Typed) (t₃ : List ℕ)
+        type_by : (m : Result (Typed Node) Refusal) (t₃ : List ℕ)
             → AnswersClose src.edition ws t₂ r.at.0 r.no.0 at r.count m t₃
             → AnswersType (reads type a (from src ws at) fresh) src ws t n m t₃
         -- `>`
-        type_by (typed.Node m) t₃ v =
+        type_by (Ok (Whole m)) t₃ v =
             record {
               top = type_rec ws at r.count (span_at ws r.at.0);
               below = k.row;
@@ -151,7 +148,7 @@ module _ (src : Text) (ws : List ℕ) (at a : ℕ) (h : at < size ws) where
                   (past_as (code Gt) (λ u. u) k.ready.closed k.ready.inside v.0);
             }
         -- the first closer of a `>>`
-        type_by (typed.Half m) t₃ v =
+        type_by (Ok (Half m)) t₃ v =
             record {
               top = type_rec ws at r.count (front_span ws r.at.0);
               below = k.row;
@@ -162,11 +159,11 @@ module _ (src : Text) (ws : List ℕ) (at a : ℕ) (h : at < size ws) where
               inside = subst (λ (j : ℕ). j < size ws) (sym v.1.at) k.ready.inside;
               shr = ap (λ (j : ℕ). kind_at ws j) v.1.at ∙ pair_kind_lem src.edition ws r.at.0 v.0;
             }
-        type_by (typed.Refused e) t₃ v =
+        type_by (Err e) t₃ v =
             fails named (lack_closer listed k.ready.inside k.ready.closed v.0
             (no_pair src ws r.at.0 k.ready.closed k.ready.inside v.1) v.2)
 
-        pub type_closed : {m : Typed} {t₃ : List ℕ}
+        pub type_closed : {m : Result (Typed Node) Refusal} {t₃ : List ℕ}
             → ClosesType src.edition ws t₂ r.at.0 r.no.0 at r.count m t₃
             → MeetsType (reads type a (from src ws at) fresh) src ws t n m t₃
         type_closed {m} {t₃} v = record { by = type_by m t₃ v.by }
@@ -191,35 +188,35 @@ module _ (src : Text) (ws : List ℕ) (at a : ℕ) (h : at < size ws) where
 
 -- answers made, and taken apart
 module _ {o : Outcome} {src : Text} {ws t : List ℕ} {n : ℕ} {t' : List ℕ} where
-  pub type_took : {r : Node} → Took o src ws t n r t' → MeetsType o src ws t n (typed.Node r) t'
+  pub type_took : {r : Node} → Took o src ws t n r t' → MeetsType o src ws t n (Ok (Whole r)) t'
   type_took k = record { by = k }
 
-  pub type_half : {r : Node} → TookHalf o src ws t n r t' → MeetsType o src ws t n (typed.Half r) t'
+  pub type_half : {r : Node} → TookHalf o src ws t n r t' → MeetsType o src ws t n (Ok (Half r)) t'
   type_half k = record { by = k }
 
-  pub type_failed : {e : Refusal} → Failed o e → MeetsType o src ws t n (typed.Refused e) t'
+  pub type_failed : {e : Refusal} → Failed o e → MeetsType o src ws t n (Err e) t'
   type_failed f = record { by = f }
 
-  pub typed_of : {r : Typed} {m : Node} → r ≡ typed.Node m → MeetsType o src ws t n r t' → Took o src ws t n m t'
-  typed_of z m = subst (λ (r : Typed). AnswersType o src ws t n r t') z m.by
+  pub typed_of : {r : Result (Typed Node) Refusal} {m : Node} → r ≡ Ok (Whole m) → MeetsType o src ws t n r t' → Took o src ws t n m t'
+  typed_of z m = subst (λ (r : Result (Typed Node) Refusal). AnswersType o src ws t n r t') z m.by
 
-  pub half_of : {r : Typed} {m : Node} → r ≡ typed.Half m → MeetsType o src ws t n r t' → TookHalf o src ws t n m t'
-  half_of z m = subst (λ (r : Typed). AnswersType o src ws t n r t') z m.by
+  pub half_of : {r : Result (Typed Node) Refusal} {m : Node} → r ≡ Ok (Half m) → MeetsType o src ws t n r t' → TookHalf o src ws t n m t'
+  half_of z m = subst (λ (r : Result (Typed Node) Refusal). AnswersType o src ws t n r t') z m.by
 
-  pub untyped_of : {r : Typed} {e : Refusal} → r ≡ typed.Refused e → MeetsType o src ws t n r t' → Failed o e
-  untyped_of z m = subst (λ (r : Typed). AnswersType o src ws t n r t') z m.by
+  pub untyped_of : {r : Result (Typed Node) Refusal} {e : Refusal} → r ≡ Err e → MeetsType o src ws t n r t' → Failed o e
+  untyped_of z m = subst (λ (r : Result (Typed Node) Refusal). AnswersType o src ws t n r t') z m.by
 
 module _ {o : Outcome} {x : Acc} {src : Text} {ws t : List ℕ} {n : ℕ} {t' : List ℕ} where
-  pub types_of : {r : Typeds} {m : Nodes} → r ≡ typeds.Nodes m → ListsTypes o x src ws t n r t'
+  pub types_of : {r : Result (Typed Nodes) Refusal} {m : Nodes} → r ≡ Ok (Whole m) → ListsTypes o x src ws t n r t'
       → TookOn o x src ws t n m t'
-  types_of z m = subst (λ (r : Typeds). AnswersTypes o x src ws t n r t') z m.by
+  types_of z m = subst (λ (r : Result (Typed Nodes) Refusal). AnswersTypes o x src ws t n r t') z m.by
 
-  pub types_half_of : {r : Typeds} {m : Nodes} → r ≡ typeds.Half m → ListsTypes o x src ws t n r t'
+  pub types_half_of : {r : Result (Typed Nodes) Refusal} {m : Nodes} → r ≡ Ok (Half m) → ListsTypes o x src ws t n r t'
       → TookOnHalf o x src ws t n m t'
-  types_half_of z m = subst (λ (r : Typeds). AnswersTypes o x src ws t n r t') z m.by
+  types_half_of z m = subst (λ (r : Result (Typed Nodes) Refusal). AnswersTypes o x src ws t n r t') z m.by
 
-  pub no_types_of : {r : Typeds} {e : Refusal} → r ≡ typeds.Refused e → ListsTypes o x src ws t n r t' → Failed o e
-  no_types_of z m = subst (λ (r : Typeds). AnswersTypes o x src ws t n r t') z m.by
+  pub no_types_of : {r : Result (Typed Nodes) Refusal} {e : Refusal} → r ≡ Err e → ListsTypes o x src ws t n r t' → Failed o e
+  no_types_of z m = subst (λ (r : Result (Typed Nodes) Refusal). AnswersTypes o x src ws t n r t') z m.by
 
 -- AN ARGUMENT that is a type
 module _ (src : Text) (ws : List ℕ) (at a : ℕ) (h : at < size ws) (n : kind_at ws at ≡ code Int → ⊥) where
@@ -230,10 +227,10 @@ module _ (src : Text) (ws : List ℕ) (at a : ℕ) (h : at < size ws) (n : kind_
   abbrev passed : ℕ → Outcome
   passed b = onward (reads type b (from src ws at) fresh) (λ y r. left (beside widens fresh y) r)
 
-  arg_by : (b : ℕ) (t : List ℕ) (k : ℕ) (r : Typed) (t' : List ℕ) → reads type_arg a (from src ws at) fresh ≡ passed b
+  arg_by : (b : ℕ) (t : List ℕ) (k : ℕ) (r : Result (Typed Node) Refusal) (t' : List ℕ) → reads type_arg a (from src ws at) fresh ≡ passed b
       → AnswersType (reads type b (from src ws at) fresh) src ws t k r t'
       → AnswersType (reads type_arg a (from src ws at) fresh) src ws t k r t'
-  arg_by b t k (typed.Node r) t' z m =
+  arg_by b t k (Ok (Whole r)) t' z m =
       record {
         top = m.top;
         below = m.below;
@@ -242,7 +239,7 @@ module _ (src : Text) (ws : List ℕ) (at a : ℕ) (h : at < size ws) (n : kind_
         laid = m.laid;
         inside = m.inside;
       }
-  arg_by b t k (typed.Half r) t' z m =
+  arg_by b t k (Ok (Half r)) t' z m =
       record {
         top = m.top;
         below = m.below;
@@ -251,9 +248,9 @@ module _ (src : Text) (ws : List ℕ) (at a : ℕ) (h : at < size ws) (n : kind_
         inside = m.inside;
         shr = m.shr;
       }
-  arg_by b t k (typed.Refused e) t' z m = failed_onward (λ y r. left (beside widens fresh y) r) z m
+  arg_by b t k (Err e) t' z m = failed_onward (λ y r. left (beside widens fresh y) r) z m
 
-  pub arg_in : {b : ℕ} {t : List ℕ} {k : ℕ} {r : Typed} {t' : List ℕ} → (0 < a) × (b ≡ a - 1)
+  pub arg_in : {b : ℕ} {t : List ℕ} {k : ℕ} {r : Result (Typed Node) Refusal} {t' : List ℕ} → (0 < a) × (b ≡ a - 1)
       → MeetsType (reads type b (from src ws at) fresh) src ws t k r t'
       → MeetsType (reads type_arg a (from src ws at) fresh) src ws t k r t'
   arg_in {b} {t} {k} {r} {t'} z m = record { by = arg_by b t k r t' (arg_eq b z) m.by }
@@ -356,16 +353,16 @@ module _ (src : Text) (ws : List ℕ) {at n : ℕ} (g : Ready ws at n) (w : kind
         let z = of_past src ws at 0 g.inside g.closed w spelt in
         record { closed = g.closed; inside = omega (arith, at_of, q); fits = omega (arith, at_of, no_of_int, q, g.fits) }
 
-    module _ {i : ℕ} (q : i ≡ m.at.0 + 1) {t₁ t₂ : List ℕ} {r : Parsed} (v : Words (codes (Int ∷ [])) (node_code int_node) (refusal_code expected_integer) ws t₁ i m.no.0 r t₂) where
+    module _ {i : ℕ} (q : i ≡ m.at.0 + 1) {t₁ t₂ : List ℕ} {r : Result Node Refusal} (v : Words (codes (Int ∷ [])) (node_code int_node) (refusal_code expected_integer) ws t₁ i m.no.0 r t₂) where
       second : i ≡ at + 1 + 1
       second = q ∙ ap (λ (j : ℕ). j + 1) at_of
 
-      pub arg_bad : {u : Refusal} (a : ℕ) → r ≡ parsed.Refused u → Failed (reads type_arg a (from src ws at) fresh) u
+      pub arg_bad : {u : Refusal} (a : ℕ) → r ≡ Err u → Failed (reads type_arg a (from src ws at) fresh) u
       arg_bad a z =
           let k = no_word_of z v in
           of_bad src ws at a g.inside g.closed w spelt (λ u. k.0 (subst (λ (j : ℕ). T (has (code Int ∷ []) (kind_at ws j))) (sym second) u)) (k.1 ∙ ap (λ (j : ℕ). err_at ws j (refusal_code expected_integer) 0) second)
 
-      module _ {k : Node} (z : r ≡ parsed.Node k) where
+      module _ {k : Node} (z : r ≡ Ok k) where
         pub arg_few : k.no.0 < 4294967296
         arg_few = let y = ap (λ (m : Node). m.no.0) (word_of z v).1 in omega (arith, (arg_ready q).inside, (arg_ready q).fits, g.closed.few)
 

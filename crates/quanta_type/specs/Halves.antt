@@ -1,7 +1,7 @@
 -- The two closers that a `>>` of edition 2 counts as where a type list must close, its halves; and what the readers of
 -- types answer where the first of them closed a type.
 -- Assumes nothing.
-use Rattle.std.specs.Prelude.{◌≡◌, Bool, false, List, ◌∷◌, ℕ, ◌+◌, ◌-◌, ◌<◌, max, T, eqb}
+use Rattle.std.specs.Prelude.{◌≡◌, Bool, false, List, ◌∷◌, ℕ, ◌+◌, ◌-◌, ◌<◌, max, T, eqb, Err, Ok, Result}
 use Rattle.grammar.specs.Grammar.{Tok, back}
 use Rattle.grammar.specs.Records.{Acc, Rec, Row, none, put, count, fresh}
 use Rattle.grammar.specs.Fused.{Outcome, left}
@@ -23,10 +23,8 @@ use Rattle.quanta_cursor.specs.Cursor.{joined, span_at, err_at}
 use Rattle.quanta_cursor.specs.Tree.{Laid, rec_of, put_rec}
 use Rattle.quanta_cursor.specs.Answers.{single, Failed, Took}
 use Rattle.quanta_cursor.specs.Lists.{grown, TookOn}
+use Rattle.quanta_type.specs.declared.half.Typed.TheVariants.{Whole, Half}
 use Rattle.quanta_type.specs.declared.half.Typed.{Typed}
-use Rattle.quanta_type.specs.declared.half.Typed.TheVariants as typed
-use Rattle.quanta_type.specs.declared.half.Typeds.{Typeds}
-use Rattle.quanta_type.specs.declared.half.Typeds.TheVariants as typeds
 
 -- the token at i is a `>>` that counts as two closers where a type list must close
 abbrev pub is_pair : Edition → List ℕ → ℕ → Bool
@@ -66,14 +64,14 @@ pub record TypeUpTo (ws t : List ℕ) (n name count : ℕ) (u : Span) (next : �
   pub words : t' ≡ put_rec t n (type_rec ws name count u)
 
 -- what closes a type's arguments at the token i: `>`, the first closer of a `>>`, or nothing
-abbrev pub AnswersClose : Edition → List ℕ → List ℕ → ℕ → ℕ → ℕ → ℕ → Typed → List ℕ → Type 0
-AnswersClose e ws t i n name c (typed.Node r) t' =
+abbrev pub AnswersClose : Edition → List ℕ → List ℕ → ℕ → ℕ → ℕ → ℕ → Result (Typed Node) Refusal → List ℕ → Type 0
+AnswersClose e ws t i n name c (Ok (Whole r)) t' =
     (kind_at ws i ≡ code Gt) × TypeUpTo ws t n name c (span_at ws i) (i + 1) r t'
-AnswersClose e ws t i n name c (typed.Half r) t' = T (is_pair e ws i) × TypeUpTo ws t n name c (front_span ws i) i r t'
-AnswersClose e ws t i n name c (typed.Refused u) t' =
+AnswersClose e ws t i n name c (Ok (Half r)) t' = T (is_pair e ws i) × TypeUpTo ws t n name c (front_span ws i) i r t'
+AnswersClose e ws t i n name c (Err u) t' =
     (kind_at ws i ≡ code Gt → ⊥) × (T (is_pair e ws i) → ⊥) × (u ≡ err_at ws i (refusal_code expected_token) (code Gt))
 
-pub record ClosesType (e : Edition) (ws t : List ℕ) (i n name c : ℕ) (r : Typed) (t' : List ℕ) : Type 0 where
+pub record ClosesType (e : Edition) (ws t : List ℕ) (i n name c : ℕ) (r : Result (Typed Node) Refusal) (t' : List ℕ) : Type 0 where
   pub by : AnswersClose e ws t i n name c r t'
 
 -- the outcome is one record, as in `Took`, and what is left begins with the second half of the `>>` at r's position
@@ -85,17 +83,17 @@ pub record TookHalf (o : Outcome) (src : Text) (ws t : List ℕ) (n : ℕ) (r : 
   pub inside : r.at.0 < size ws
   pub shr : kind_at ws r.at.0 ≡ code Shr
 
-abbrev pub AnswersType : Outcome → Text → List ℕ → List ℕ → ℕ → Typed → List ℕ → Type 0
-AnswersType o src ws t n (typed.Node r) t' = Took o src ws t n r t'
-AnswersType o src ws t n (typed.Half r) t' = TookHalf o src ws t n r t'
-AnswersType o src ws t n (typed.Refused e) t' = Failed o e
+abbrev pub AnswersType : Outcome → Text → List ℕ → List ℕ → ℕ → Result (Typed Node) Refusal → List ℕ → Type 0
+AnswersType o src ws t n (Ok (Whole r)) t' = Took o src ws t n r t'
+AnswersType o src ws t n (Ok (Half r)) t' = TookHalf o src ws t n r t'
+AnswersType o src ws t n (Err e) t' = Failed o e
 
-pub record MeetsType (o : Outcome) (src : Text) (ws t : List ℕ) (n : ℕ) (r : Typed) (t' : List ℕ) : Type 0 where
+pub record MeetsType (o : Outcome) (src : Text) (ws t : List ℕ) (n : ℕ) (r : Result (Typed Node) Refusal) (t' : List ℕ) : Type 0 where
   pub by : AnswersType o src ws t n r t'
 
 -- a type, or an argument of one, at the token i with the allowance a, over the words t from the record n on: the
 -- answer r, and the words t'
-abbrev pub Types : Text → Symbol → List ℕ → ℕ → ℕ → ℕ → List ℕ → Typed → List ℕ → Type 0
+abbrev pub Types : Text → Symbol → List ℕ → ℕ → ℕ → ℕ → List ℕ → Result (Typed Node) Refusal → List ℕ → Type 0
 Types src s ws i n a t r t' = MeetsType (reads s a (from src ws i) fresh) src ws t n r t'
 
 -- the same of a list on top of x, as in `TookOn`
@@ -108,11 +106,11 @@ pub record TookOnHalf (o : Outcome) (x : Acc) (src : Text) (ws t : List ℕ) (n 
   pub ready : Ready ws r.at.0 r.no.0
   pub shr : kind_at ws r.at.0 ≡ code Shr
 
-abbrev pub AnswersTypes : Outcome → Acc → Text → List ℕ → List ℕ → ℕ → Typeds → List ℕ → Type 0
-AnswersTypes o x src ws t n (typeds.Nodes r) t' = TookOn o x src ws t n r t'
-AnswersTypes o x src ws t n (typeds.Half r) t' = TookOnHalf o x src ws t n r t'
-AnswersTypes o x src ws t n (typeds.Refused e) t' = Failed o e
+abbrev pub AnswersTypes : Outcome → Acc → Text → List ℕ → List ℕ → ℕ → Result (Typed Nodes) Refusal → List ℕ → Type 0
+AnswersTypes o x src ws t n (Ok (Whole r)) t' = TookOn o x src ws t n r t'
+AnswersTypes o x src ws t n (Ok (Half r)) t' = TookOnHalf o x src ws t n r t'
+AnswersTypes o x src ws t n (Err e) t' = Failed o e
 
-pub record ListsTypes (o : Outcome) (x : Acc) (src : Text) (ws t : List ℕ) (n : ℕ) (r : Typeds) (t' : List ℕ)
+pub record ListsTypes (o : Outcome) (x : Acc) (src : Text) (ws t : List ℕ) (n : ℕ) (r : Result (Typed Nodes) Refusal) (t' : List ℕ)
     : Type 0 where
   pub by : AnswersTypes o x src ws t n r t'

@@ -11,11 +11,11 @@ ghost use Rattle.quanta_cursor.specs.Tokens.{size, kind_at, from, Ready};
 ghost use Rattle.quanta_type.specs.Arguments.{arguments};
 ghost use Rattle.quanta_type.specs.Halves.{back_span, Types, ListsTypes, TypeUpTo, ClosesType};
 
-use crate::half::{Typed, Typeds, back_span, front_span, is_pair};
+use crate::half::{Typed, back_span, front_span, is_pair};
 use crate::text::is_of;
 use quanta_cursor::parser::{
-    Entered, Expected, Node, Nodes, Parsed, RecordNo, Span, TokenPos, bump, enter, err, expect,
-    expect_int, leaf, peek, peek_span, put,
+    Node, Nodes, Record, RecordNo, Refusal, Span, TokenPos, bump, enter, err, expect, expect_int,
+    leaf, peek, peek_span, put,
 };
 use quanta_cursor::{node, refusal};
 use quanta_token::edition::Edition;
@@ -30,7 +30,7 @@ pub fn ty(
     at: TokenPos,
     no: RecordNo,
     allowance: usize,
-) -> Typed
+) -> Result<Typed<Node>, Refusal>
     requires { Ready tokens.now at.0 no.0 }
     ensures { Types (text edition src.now) type tokens.now at.0 no.0 allowance tree.old result tree.new }
 {
@@ -38,15 +38,15 @@ pub fn ty(
         token::IDENT | token::QUORUM => {
             let next = bump(at);
             if peek(tokens, next) != token::LT {
-                return Typed::Node(leaf(tokens, tree, at, no, node::TYPE));
+                return Ok(Typed::Whole(leaf(tokens, tree, at, no, node::TYPE)));
             }
             match generic_args(edition, src, tokens, tree, bump(next), no, allowance) {
-                Typeds::Refused(e) => Typed::Refused(e),
-                Typeds::Nodes(args) => close_args(edition, tokens, tree, at, args),
-                Typeds::Half(args) => Typed::Node(close_half(tokens, tree, at, args)),
+                Err(e) => Err(e),
+                Ok(Typed::Whole(args)) => close_args(edition, tokens, tree, at, args),
+                Ok(Typed::Half(args)) => Ok(Typed::Whole(close_half(tokens, tree, at, args))),
             }
         }
-        _ => Typed::Refused(err(tokens, at, refusal::EXPECTED_TYPE, 0)),
+        _ => Err(err(tokens, at, refusal::EXPECTED_TYPE, 0)),
     }
 }
 
@@ -59,7 +59,7 @@ fn generic_args(
     at: TokenPos,
     no: RecordNo,
     allowance: usize,
-) -> Typeds
+) -> Result<Typed<Nodes>, Refusal>
     requires { Ready tokens.now at.0 no.0 }
     ensures { (x : Acc) → ListsTypes (arguments allowance (from (text edition src.now) tokens.now at.0) x) x (text edition src.now) tokens.now tree.old no.0 result tree.new }
 {
@@ -68,27 +68,27 @@ fn generic_args(
     let mut count: u32 = 0;
     loop {
         match generic_arg(edition, src, tokens, tree, at, no, allowance) {
-            Typed::Refused(e) => return Typeds::Refused(e),
-            Typed::Half(arg) => {
+            Err(e) => return Err(e),
+            Ok(Typed::Half(arg)) => {
                 let next = arg.at;
                 no = arg.no;
                 count += 1;
-                return Typeds::Half(Nodes {
+                return Ok(Typed::Half(Nodes {
                     at: next,
                     no: no,
                     count: count,
-                });
+                }));
             }
-            Typed::Node(arg) => {
+            Ok(Typed::Whole(arg)) => {
                 let next = arg.at;
                 no = arg.no;
                 count += 1;
                 if peek(tokens, next) != token::COMMA {
-                    return Typeds::Nodes(Nodes {
+                    return Ok(Typed::Whole(Nodes {
                         at: next,
                         no: no,
                         count: count,
-                    });
+                    }));
                 }
                 at = bump(next);
             }
@@ -105,7 +105,7 @@ fn generic_arg(
     at: TokenPos,
     no: RecordNo,
     allowance: usize,
-) -> Typed
+) -> Result<Typed<Node>, Refusal>
     requires { Ready tokens.now at.0 no.0 }
     ensures { Types (text edition src.now) type_arg tokens.now at.0 no.0 allowance tree.old result tree.new }
 {
@@ -113,36 +113,52 @@ fn generic_arg(
         return int_arg(src, tokens, tree, at, no);
     }
     match enter(tokens, at, allowance) {
-        Entered::Refused(e) => Typed::Refused(e),
-        Entered::Left(less) => ty(edition, src, tokens, tree, at, no, less),
+        Err(e) => Err(e),
+        Ok(less) => ty(edition, src, tokens, tree, at, no, less),
     }
 }
 
 // An argument that begins with the integer at `at`: that alone, or m of n. Neither counts in the nesting.
-fn int_arg(src: &[u8], tokens: &[u32], tree: &mut [u32], at: TokenPos, no: RecordNo) -> Typed
+fn int_arg(
+    src: &[u8],
+    tokens: &[u32],
+    tree: &mut [u32],
+    at: TokenPos,
+    no: RecordNo,
+) -> Result<Typed<Node>, Refusal>
     requires { Ready tokens.now at.0 no.0 × (kind_at tokens.now at.0 ≡ code Int) }
     ensures { (e : specs.Edition) (a : ℕ) → Types (text e src.now) type_arg tokens.now at.0 no.0 a tree.old result tree.new }
 {
     let m = leaf(tokens, tree, at, no, node::INT);
     let of = m.at;
     if !is_of(src, tokens, of) {
-        return Typed::Node(m);
+        return Ok(Typed::Whole(m));
     }
     let no = m.no;
     match expect_int(tokens, tree, bump(of), no) {
-        Parsed::Refused(e) => Typed::Refused(e),
-        Parsed::Node(n) => {
+        Err(e) => Err(e),
+        Ok(n) => {
             let at = n.at;
             let no = n.no;
             let start = m.span;
             let end = n.span;
             let span = start.join(end);
-            Typed::Node(Node {
+            Ok(Typed::Whole(Node {
                 at: at,
-                no: put(tree, no, node::M_OF_N, 0, of, span, 2),
+                no: put(
+                    tree,
+                    no,
+                    Record {
+                        kind: node::M_OF_N,
+                        flag: 0,
+                        own: of,
+                        span,
+                        children: 2,
+                    },
+                ),
                 span: span,
                 kind: node::M_OF_N,
-            })
+            }))
         }
     }
 }
@@ -154,22 +170,22 @@ fn close_args(
     tree: &mut [u32],
     name: TokenPos,
     args: Nodes,
-) -> Typed
+) -> Result<Typed<Node>, Refusal>
     requires { Ready tokens.now args.at.0 args.no.0 × (name.0 < size tokens.now) }
     ensures { ClosesType edition tokens.now tree.old args.at.0 args.no.0 name.0 args.count result tree.new }
 {
     let at = args.at;
     match expect(tokens, at, token::GT) {
-        Expected::Next(next) => {
+        Ok(next) => {
             let end = peek_span(tokens, at);
-            Typed::Node(put_type(tokens, tree, name, args, end, next))
+            Ok(Typed::Whole(put_type(tokens, tree, name, args, end, next)))
         }
-        Expected::Refused(e) => {
+        Err(e) => {
             if is_pair(edition, tokens, at) {
                 let end = front_span(tokens, at);
-                return Typed::Half(put_type(tokens, tree, name, args, end, at));
+                return Ok(Typed::Half(put_type(tokens, tree, name, args, end, at)));
             }
-            Typed::Refused(e)
+            Err(e)
         }
     }
 }
@@ -201,7 +217,17 @@ fn put_type(
     let span = first.join(end);
     Node {
         at: next,
-        no: put(tree, no, node::TYPE, 0, name, span, args.count),
+        no: put(
+            tree,
+            no,
+            Record {
+                kind: node::TYPE,
+                flag: 0,
+                own: name,
+                span,
+                children: args.count,
+            },
+        ),
         span: span,
         kind: node::TYPE,
     }

@@ -14,34 +14,34 @@ pub after_target-requires : goal.after_target-requires
 after_target-requires c = after_past (text One c.args.src.now) c.args.tokens.now c.args.allowance c.requires.0 c.requires.1 c.bump.ensures
 
 pub peek-requires : goal.peek-requires
-peek-requires c = (target_ready (text One c.args.src.now) c.args.tokens.now c.args.allowance c.requires.0 c.requires.1 c.bump.ensures (target_of_lem (c.after_target.ensures One) c.in-Target.is)).inside
+peek-requires c = (target_ready (text One c.args.src.now) c.args.tokens.now c.args.allowance c.requires.0 c.requires.1 c.bump.ensures (target_of_lem (c.after_target.ensures One) c.in-Ok.is)).inside
 
 pub end_after-requires : goal.end_after-requires
-end_after-requires c = (c.requires.0.inside, (target_ready (text One c.args.src.now) c.args.tokens.now c.args.allowance c.requires.0 c.requires.1 c.bump.ensures (target_of_lem (c.after_target.ensures One) c.in-Target.is)))
+end_after-requires c = (c.requires.0.inside, (target_ready (text One c.args.src.now) c.args.tokens.now c.args.allowance c.requires.0 c.requires.1 c.bump.ensures (target_of_lem (c.after_target.ensures One) c.in-Ok.is)))
 
 pub returns-then-peek-ne-FROM : goal.returns-then-peek-ne-FROM
-returns-then-peek-ne-FROM c = λ e. took (after_plain (text e c.args.src.now) c.args.tokens.now c.args.allowance c.requires.0 c.requires.1 c.bump.ensures (target_of_lem (c.after_target.ensures e) c.in-Target.is) (λ z. c.if-peek-ne-FROM.true (c.peek.ensures ∙ z)) c.end_after.ensures)
+returns-then-peek-ne-FROM c = λ e. took (after_plain (text e c.args.src.now) c.args.tokens.now c.args.allowance c.requires.0 c.requires.1 c.bump.ensures (target_of_lem (c.after_target.ensures e) c.in-Ok.is) (λ z. c.if-peek-ne-FROM.true (c.peek.ensures ∙ z)) c.end_after.ensures)
 
-pub bump-requires-in-Target : goal.bump-requires-in-Target
-bump-requires-in-Target c = ready_small (target_ready (text One c.args.src.now) c.args.tokens.now c.args.allowance c.requires.0 c.requires.1 c.bump.ensures (target_of_lem (c.after_target.ensures One) c.in-Target.is))
+pub bump-requires-in-Ok : goal.bump-requires-in-Ok
+bump-requires-in-Ok c = ready_small (target_ready (text One c.args.src.now) c.args.tokens.now c.args.allowance c.requires.0 c.requires.1 c.bump.ensures (target_of_lem (c.after_target.ensures One) c.in-Ok.is))
 
 pub expr-requires : goal.expr-requires
-expr-requires c = from_past (text One c.args.src.now) c.args.tokens.now c.args.allowance c.requires.0 c.requires.1 c.bump.ensures (target_of_lem (c.after_target.ensures One) c.in-Target.is) (sym c.peek.ensures ∙ c.if-peek-ne-FROM.false) c.bump-in-Target.ensures
+expr-requires c = from_past (text One c.args.src.now) c.args.tokens.now c.args.allowance c.requires.0 c.requires.1 c.bump.ensures (target_of_lem (c.after_target.ensures One) c.in-Ok.is) (sym c.peek.ensures ∙ c.if-peek-ne-FROM.false) c.bump-in-Ok.ensures
 
 pub overflow_add-target : goal.overflow_add-target
-overflow_add-target c = omega (arith, (target_few (text One c.args.src.now) c.args.tokens.now c.args.allowance c.requires.0 c.requires.1 c.bump.ensures (target_of_lem (c.after_target.ensures One) c.in-Target.is)).0)
+overflow_add-target c = omega (arith, (target_few (text One c.args.src.now) c.args.tokens.now c.args.allowance c.requires.0 c.requires.1 c.bump.ensures (target_of_lem (c.after_target.ensures One) c.in-Ok.is)).0)
 
-pub overflow_add-target-in-Node : goal.overflow_add-target-in-Node
-overflow_add-target-in-Node c = let z = (target_ready (text One c.args.src.now) c.args.tokens.now c.args.allowance c.requires.0 c.requires.1 c.bump.ensures (target_of_lem (c.after_target.ensures One) c.in-Target.is)) in omega (arith, (target_few (text One c.args.src.now) c.args.tokens.now c.args.allowance c.requires.0 c.requires.1 c.bump.ensures (target_of_lem (c.after_target.ensures One) c.in-Target.is)).1, z.fits, z.inside, z.closed.few)
+pub overflow_add-target-in-Ok-expr : goal.overflow_add-target-in-Ok-expr
+overflow_add-target-in-Ok-expr c = let z = (target_ready (text One c.args.src.now) c.args.tokens.now c.args.allowance c.requires.0 c.requires.1 c.bump.ensures (target_of_lem (c.after_target.ensures One) c.in-Ok.is)) in omega (arith, (target_few (text One c.args.src.now) c.args.tokens.now c.args.allowance c.requires.0 c.requires.1 c.bump.ensures (target_of_lem (c.after_target.ensures One) c.in-Ok.is)).1, z.fits, z.inside, z.closed.few)
 
-pub end_after-requires-in-Node : goal.end_after-requires-in-Node
-end_after-requires-in-Node c = (c.requires.0.inside, took_ready (text One c.args.src.now) expr c.args.allowance (from_past (text One c.args.src.now) c.args.tokens.now c.args.allowance c.requires.0 c.requires.1 c.bump.ensures (target_of_lem (c.after_target.ensures One) c.in-Target.is) (sym c.peek.ensures ∙ c.if-peek-ne-FROM.false) c.bump-in-Target.ensures) (took_of c.in-Node.is (c.expr.ensures (text One c.args.src.now))))
+pub end_after-requires-in-Ok-expr : goal.end_after-requires-in-Ok-expr
+end_after-requires-in-Ok-expr c = (c.requires.0.inside, took_ready (text One c.args.src.now) expr c.args.allowance (from_past (text One c.args.src.now) c.args.tokens.now c.args.allowance c.requires.0 c.requires.1 c.bump.ensures (target_of_lem (c.after_target.ensures One) c.in-Ok.is) (sym c.peek.ensures ∙ c.if-peek-ne-FROM.false) c.bump-in-Ok.ensures) (took_of c.in-Ok-expr.is (c.expr.ensures (text One c.args.src.now))))
 
-pub returns-in-Refused : goal.returns-in-Refused
-returns-in-Refused c = λ e. failed (after_bad (text e c.args.src.now) c.args.tokens.now c.args.allowance c.requires.0 c.requires.1 c.bump.ensures (untargeted (c.after_target.ensures e) c.in-Refused.is))
+pub returns-in-Err : goal.returns-in-Err
+returns-in-Err c = λ e. failed (after_bad (text e c.args.src.now) c.args.tokens.now c.args.allowance c.requires.0 c.requires.1 c.bump.ensures (untargeted (c.after_target.ensures e) c.in-Err.is))
 
-pub returns-in-Refused-expr : goal.returns-in-Refused-expr
-returns-in-Refused-expr c = λ e. failed (from_bad (text e c.args.src.now) c.args.tokens.now c.args.allowance c.requires.0 c.requires.1 c.bump.ensures (target_of_lem (c.after_target.ensures e) c.in-Target.is) (sym c.peek.ensures ∙ c.if-peek-ne-FROM.false) c.bump-in-Target.ensures (failed_of c.in-Refused-expr.is (c.expr.ensures (text e c.args.src.now))))
+pub returns-in-Err-expr : goal.returns-in-Err-expr
+returns-in-Err-expr c = λ e. failed (from_bad (text e c.args.src.now) c.args.tokens.now c.args.allowance c.requires.0 c.requires.1 c.bump.ensures (target_of_lem (c.after_target.ensures e) c.in-Ok.is) (sym c.peek.ensures ∙ c.if-peek-ne-FROM.false) c.bump-in-Ok.ensures (failed_of c.in-Err-expr.is (c.expr.ensures (text e c.args.src.now))))
 
-pub returns-in-Node : goal.returns-in-Node
-returns-in-Node c = λ e. took (from_took (text e c.args.src.now) c.args.tokens.now c.args.allowance c.requires.0 c.requires.1 c.bump.ensures (target_of_lem (c.after_target.ensures e) c.in-Target.is) (sym c.peek.ensures ∙ c.if-peek-ne-FROM.false) c.bump-in-Target.ensures (took_of c.in-Node.is (c.expr.ensures (text e c.args.src.now))) c.end_after-in-Node.ensures)
+pub returns-in-Ok-expr : goal.returns-in-Ok-expr
+returns-in-Ok-expr c = λ e. took (from_took (text e c.args.src.now) c.args.tokens.now c.args.allowance c.requires.0 c.requires.1 c.bump.ensures (target_of_lem (c.after_target.ensures e) c.in-Ok.is) (sym c.peek.ensures ∙ c.if-peek-ne-FROM.false) c.bump-in-Ok.ensures (took_of c.in-Ok-expr.is (c.expr.ensures (text e c.args.src.now))) c.end_after-in-Ok-expr.ensures)

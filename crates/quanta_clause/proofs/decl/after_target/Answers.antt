@@ -14,8 +14,8 @@ leaf-unit-requires c = unit_ready (text One c.args.src.now) c.args.tokens.now c.
 pub returns-then-is_duration : goal.returns-then-is_duration
 returns-then-is_duration c = λ e. duration_target c.requires (c.is_duration.ensures e) c.if-is_duration.true c.leaf-value.ensures.0 c.leaf-unit.ensures.0 c.leaf-value.ensures.1 c.leaf-unit.ensures.1 c.join.ensures refl
 
-pub returns-in-Refused : goal.returns-in-Refused
-returns-in-Refused c = λ e. target_is false (c.is_duration.ensures e) c.if-is_duration.false (failed_of c.in-Refused.is (c.expr.ensures (text e c.args.src.now)))
+pub returns-in-Err : goal.returns-in-Err
+returns-in-Err c = λ e. target_is false (c.is_duration.ensures e) c.if-is_duration.false (failed_of c.in-Err.is (c.expr.ensures (text e c.args.src.now)))
 
-pub returns-in-Node : goal.returns-in-Node
-returns-in-Node c = λ e. target_is false (c.is_duration.ensures e) c.if-is_duration.false (value_took (took_of c.in-Node.is (c.expr.ensures (text e c.args.src.now))))
+pub returns-in-Ok : goal.returns-in-Ok
+returns-in-Ok c = λ e. target_is false (c.is_duration.ensures e) c.if-is_duration.false (value_took (took_of c.in-Ok.is (c.expr.ensures (text e c.args.src.now))))

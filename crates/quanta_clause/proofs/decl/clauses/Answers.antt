@@ -42,8 +42,8 @@ names-init c =
     let src = text One c.args.src.now in
     let g = (c.clauses.invariant One).ready in
     let w = is_names c.peek.ensures (omega arith) (omega arith) in
-    let r = inside_ready src ws a g w c.bump.ensures c.first_name.ensures c.in-Node.is in
-    let m = inside_word src ws a g w c.bump.ensures c.first_name.ensures c.in-Node.is in
+    let r = inside_ready src ws a g w c.bump.ensures c.first_name.ensures c.in-Ok.is in
+    let m = inside_word src ws a g w c.bump.ensures c.first_name.ensures c.in-Ok.is in
     list_begun names_law r m refl
 
 pub peek-requires-in-names : goal.peek-requires-in-names
@@ -59,25 +59,25 @@ expect_ident-requires c =
     let src = text One c.args.src.now in
     let g = (c.clauses.invariant One).ready in
     let w = is_names c.peek.ensures (omega arith) (omega arith) in
-    let r = inside_ready src ws a g w c.bump.ensures c.first_name.ensures c.in-Node.is in
-    let m = inside_word src ws a g w c.bump.ensures c.first_name.ensures c.in-Node.is in
+    let r = inside_ready src ws a g w c.bump.ensures c.first_name.ensures c.in-Ok.is in
+    let m = inside_word src ws a g w c.bump.ensures c.first_name.ensures c.in-Ok.is in
     let comma = sym c.peek-in-names.ensures ∙ c.if-peek-ne-COMMA.false in
     comma_past names_law r m refl c.names.invariant comma c.bump-in-names.ensures
 
-pub returns-in-Refused-expect_ident : goal.returns-in-Refused-expect_ident
-returns-in-Refused-expect_ident c = λ e.
+pub returns-in-Err-expect_ident : goal.returns-in-Err-expect_ident
+returns-in-Err-expect_ident c = λ e.
     let ws = c.args.tokens.now in
     let a = c.args.allowance in
     let src = text e c.args.src.now in
     let g = (c.clauses.invariant One).ready in
     let w = is_names c.peek.ensures (omega arith) (omega arith) in
-    let r = inside_ready src ws a g w c.bump.ensures c.first_name.ensures c.in-Node.is in
-    let m = inside_word src ws a g w c.bump.ensures c.first_name.ensures c.in-Node.is in
+    let r = inside_ready src ws a g w c.bump.ensures c.first_name.ensures c.in-Ok.is in
+    let m = inside_word src ws a g w c.bump.ensures c.first_name.ensures c.in-Ok.is in
     let comma = sym c.peek-in-names.ensures ∙ c.if-peek-ne-COMMA.false in
     let b = behind src ws a g w c.bump.ensures in
     let bad = list_bad names_law r m refl c.names.invariant comma c.bump-in-names.ensures c.expect_ident.ensures
-    c.in-Refused-expect_ident.is src (tok_at src ws c.clauses.at.0) a b in
-    let none = names_bad src ws a g w c.bump.ensures c.first_name.ensures c.in-Node.is bad in
+    c.in-Err-expect_ident.is src (tok_at src ws c.clauses.at.0) a b in
+    let none = names_bad src ws a g w c.bump.ensures c.first_name.ensures c.in-Ok.is bad in
     failed_all (runs_bad clauses_run a c.requires (c.clauses.invariant e) (names_start src ws c.clauses.at.0 w) fresh none)
 
 pub overflow_add-names : goal.overflow_add-names
@@ -92,11 +92,11 @@ names-smaller c =
     let src = text One c.args.src.now in
     let g = (c.clauses.invariant One).ready in
     let w = is_names c.peek.ensures (omega arith) (omega arith) in
-    let r = inside_ready src ws a g w c.bump.ensures c.first_name.ensures c.in-Node.is in
-    let m = inside_word src ws a g w c.bump.ensures c.first_name.ensures c.in-Node.is in
+    let r = inside_ready src ws a g w c.bump.ensures c.first_name.ensures c.in-Ok.is in
+    let m = inside_word src ws a g w c.bump.ensures c.first_name.ensures c.in-Ok.is in
     let comma = sym c.peek-in-names.ensures ∙ c.if-peek-ne-COMMA.false in
     let less = list_less names_law r m refl c.names.invariant comma c.bump-in-names.ensures c.expect_ident.ensures
-    c.in-Node-expect_ident.is in
+    c.in-Ok-expect_ident.is in
     omega (arith, (c.names.invariant 0).ready.inside, less)
 
 pub names-preserved : goal.names-preserved
@@ -106,11 +106,11 @@ names-preserved c =
     let src = text One c.args.src.now in
     let g = (c.clauses.invariant One).ready in
     let w = is_names c.peek.ensures (omega arith) (omega arith) in
-    let r = inside_ready src ws a g w c.bump.ensures c.first_name.ensures c.in-Node.is in
-    let m = inside_word src ws a g w c.bump.ensures c.first_name.ensures c.in-Node.is in
+    let r = inside_ready src ws a g w c.bump.ensures c.first_name.ensures c.in-Ok.is in
+    let m = inside_word src ws a g w c.bump.ensures c.first_name.ensures c.in-Ok.is in
     let comma = sym c.peek-in-names.ensures ∙ c.if-peek-ne-COMMA.false in
     list_on names_law r m refl c.names.invariant comma c.bump-in-names.ensures c.expect_ident.ensures
-    c.in-Node-expect_ident.is refl c.expect_ident.auto.tree
+    c.in-Ok-expect_ident.is refl c.expect_ident.auto.tree
 
 pub close_names-requires : goal.close_names-requires
 close_names-requires c = ((c.names.invariant 0).ready, (c.clauses.invariant One).ready.inside)
@@ -118,8 +118,8 @@ close_names-requires c = ((c.names.invariant 0).ready, (c.clauses.invariant One)
 pub expr_clause-clause-requires : goal.expr_clause-clause-requires
 expr_clause-clause-requires c = ((c.clauses.invariant One).ready, is_expr c.peek.ensures (omega arith) (omega arith))
 
-pub returns-in-Refused-clause : goal.returns-in-Refused-clause
-returns-in-Refused-clause c = λ e.
+pub returns-in-Err-clause : goal.returns-in-Err-clause
+returns-in-Err-clause c = λ e.
     let ws = c.args.tokens.now in
     let a = c.args.allowance in
     let src = text e c.args.src.now in
@@ -134,25 +134,25 @@ returns-in-Refused-clause c = λ e.
       | in-28 w ↦
           turned (name_start src ws i (is_name v (omega arith) (omega arith))) w.clause-is w.tree-is
           (w.name_clause-clause.ensures src a) w.name_clause-clause.auto.tree
-      | in-29+in-Refused w ↦
+      | in-29+in-Err w ↦
           let k = is_names v (omega arith) (omega arith) in
-          let bad = names_none src ws a g k w.bump.ensures w.first_name.ensures w.in-Refused.is in
+          let bad = names_none src ws a g k w.bump.ensures w.first_name.ensures w.in-Err.is in
           turned (names_start src ws i k) w.clause-is w.tree-is (failed bad) w.first_name.auto.tree
-      | in-29+in-Node+then-peek-ne-COMMA w ↦
+      | in-29+in-Ok+then-peek-ne-COMMA w ↦
           let k = is_names v (omega arith) (omega arith) in
-          let r = inside_ready src ws a g k w.bump.ensures w.first_name.ensures w.in-Node.is in
-          let m = inside_word src ws a g k w.bump.ensures w.first_name.ensures w.in-Node.is in
+          let r = inside_ready src ws a g k w.bump.ensures w.first_name.ensures w.in-Ok.is in
+          let m = inside_word src ws a g k w.bump.ensures w.first_name.ensures w.in-Ok.is in
           let b = behind src ws a g k w.bump.ensures in
           let list = list_ends names_law r m refl w.names.invariant
           (λ z. w.if-peek-ne-COMMA.true (w.peek-in-names.ensures ∙ z)) refl refl refl src (tok_at src ws i) a b in
-          let met = names_met src ws a g k w.bump.ensures w.first_name.ensures w.in-Node.is list w.close_names.ensures in
+          let met = names_met src ws a g k w.bump.ensures w.first_name.ensures w.in-Ok.is list w.close_names.ensures in
           let long = w.close_names.auto.tree ∙ (w.names.invariant 0).long ∙ w.first_name.auto.tree in
           turned (names_start src ws i k) w.clause-is w.tree-is met long
       | in-31 w ↦
           turned (expr_start src ws i (is_expr v (omega arith) (omega arith))) w.clause-is w.tree-is
           (w.expr_clause-clause.ensures src) w.expr_clause-clause.auto.tree
     ] in
-    let none = failed_of c.in-Refused-clause.is turn.met in
+    let none = failed_of c.in-Err-clause.is turn.met in
     failed_all (runs_bad clauses_run a c.requires (c.clauses.invariant e) turn.goes fresh none)
 
 pub overflow_add-count : goal.overflow_add-count
@@ -176,25 +176,25 @@ clauses-smaller c =
       | in-28 w ↦
           turned (name_start src ws i (is_name v (omega arith) (omega arith))) w.clause-is w.tree-is
           (w.name_clause-clause.ensures src a) w.name_clause-clause.auto.tree
-      | in-29+in-Refused w ↦
+      | in-29+in-Err w ↦
           let k = is_names v (omega arith) (omega arith) in
-          let bad = names_none src ws a g k w.bump.ensures w.first_name.ensures w.in-Refused.is in
+          let bad = names_none src ws a g k w.bump.ensures w.first_name.ensures w.in-Err.is in
           turned (names_start src ws i k) w.clause-is w.tree-is (failed bad) w.first_name.auto.tree
-      | in-29+in-Node+then-peek-ne-COMMA w ↦
+      | in-29+in-Ok+then-peek-ne-COMMA w ↦
           let k = is_names v (omega arith) (omega arith) in
-          let r = inside_ready src ws a g k w.bump.ensures w.first_name.ensures w.in-Node.is in
-          let m = inside_word src ws a g k w.bump.ensures w.first_name.ensures w.in-Node.is in
+          let r = inside_ready src ws a g k w.bump.ensures w.first_name.ensures w.in-Ok.is in
+          let m = inside_word src ws a g k w.bump.ensures w.first_name.ensures w.in-Ok.is in
           let b = behind src ws a g k w.bump.ensures in
           let list = list_ends names_law r m refl w.names.invariant
           (λ z. w.if-peek-ne-COMMA.true (w.peek-in-names.ensures ∙ z)) refl refl refl src (tok_at src ws i) a b in
-          let met = names_met src ws a g k w.bump.ensures w.first_name.ensures w.in-Node.is list w.close_names.ensures in
+          let met = names_met src ws a g k w.bump.ensures w.first_name.ensures w.in-Ok.is list w.close_names.ensures in
           let long = w.close_names.auto.tree ∙ (w.names.invariant 0).long ∙ w.first_name.auto.tree in
           turned (names_start src ws i k) w.clause-is w.tree-is met long
       | in-31 w ↦
           turned (expr_start src ws i (is_expr v (omega arith) (omega arith))) w.clause-is w.tree-is
           (w.expr_clause-clause.ensures src) w.expr_clause-clause.auto.tree
     ] in
-    let took = took_of c.in-Node-clause.is turn.met in
+    let took = took_of c.in-Ok-clause.is turn.met in
     omega (arith, g.inside, runs_less clauses_run a c.requires (c.clauses.invariant One) turn.goes took)
 
 pub clauses-preserved : goal.clauses-preserved
@@ -213,25 +213,25 @@ clauses-preserved c = λ e.
       | in-28 w ↦
           turned (name_start src ws i (is_name v (omega arith) (omega arith))) w.clause-is w.tree-is
           (w.name_clause-clause.ensures src a) w.name_clause-clause.auto.tree
-      | in-29+in-Refused w ↦
+      | in-29+in-Err w ↦
           let k = is_names v (omega arith) (omega arith) in
-          let bad = names_none src ws a g k w.bump.ensures w.first_name.ensures w.in-Refused.is in
+          let bad = names_none src ws a g k w.bump.ensures w.first_name.ensures w.in-Err.is in
           turned (names_start src ws i k) w.clause-is w.tree-is (failed bad) w.first_name.auto.tree
-      | in-29+in-Node+then-peek-ne-COMMA w ↦
+      | in-29+in-Ok+then-peek-ne-COMMA w ↦
           let k = is_names v (omega arith) (omega arith) in
-          let r = inside_ready src ws a g k w.bump.ensures w.first_name.ensures w.in-Node.is in
-          let m = inside_word src ws a g k w.bump.ensures w.first_name.ensures w.in-Node.is in
+          let r = inside_ready src ws a g k w.bump.ensures w.first_name.ensures w.in-Ok.is in
+          let m = inside_word src ws a g k w.bump.ensures w.first_name.ensures w.in-Ok.is in
           let b = behind src ws a g k w.bump.ensures in
           let list = list_ends names_law r m refl w.names.invariant
           (λ z. w.if-peek-ne-COMMA.true (w.peek-in-names.ensures ∙ z)) refl refl refl src (tok_at src ws i) a b in
-          let met = names_met src ws a g k w.bump.ensures w.first_name.ensures w.in-Node.is list w.close_names.ensures in
+          let met = names_met src ws a g k w.bump.ensures w.first_name.ensures w.in-Ok.is list w.close_names.ensures in
           let long = w.close_names.auto.tree ∙ (w.names.invariant 0).long ∙ w.first_name.auto.tree in
           turned (names_start src ws i k) w.clause-is w.tree-is met long
       | in-31 w ↦
           turned (expr_start src ws i (is_expr v (omega arith) (omega arith))) w.clause-is w.tree-is
           (w.expr_clause-clause.ensures src) w.expr_clause-clause.auto.tree
     ] in
-    let took = took_of c.in-Node-clause.is turn.met in
+    let took = took_of c.in-Ok-clause.is turn.met in
     runs_on clauses_run a c.requires (c.clauses.invariant e) turn.goes took refl turn.long
 
 pub returns-in_default : goal.returns-in_default

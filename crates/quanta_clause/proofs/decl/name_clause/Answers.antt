@@ -9,10 +9,10 @@ pub expect_ident-requires : goal.expect_ident-requires
 expect_ident-requires c = name_past blank c.args.tokens.now 0 c.requires.0 c.requires.1 c.bump.ensures
 
 pub end_clause-requires : goal.end_clause-requires
-end_clause-requires c = (c.requires.0.inside, name_ready blank c.args.tokens.now 0 c.requires.0 c.requires.1 c.bump.ensures c.expect_ident.ensures c.in-Node.is)
+end_clause-requires c = (c.requires.0.inside, name_ready blank c.args.tokens.now 0 c.requires.0 c.requires.1 c.bump.ensures c.expect_ident.ensures c.in-Ok.is)
 
-pub returns-in-Refused : goal.returns-in-Refused
-returns-in-Refused c = λ src a. failed (name_bad src c.args.tokens.now a c.requires.0 c.requires.1 c.bump.ensures c.expect_ident.ensures c.in-Refused.is)
+pub returns-in-Err : goal.returns-in-Err
+returns-in-Err c = λ src a. failed (name_bad src c.args.tokens.now a c.requires.0 c.requires.1 c.bump.ensures c.expect_ident.ensures c.in-Err.is)
 
-pub returns-in-Node : goal.returns-in-Node
-returns-in-Node c = λ src a. took (name_took src c.args.tokens.now a c.requires.0 c.requires.1 c.bump.ensures c.expect_ident.ensures c.in-Node.is c.end_clause.ensures)
+pub returns-in-Ok : goal.returns-in-Ok
+returns-in-Ok c = λ src a. took (name_took src c.args.tokens.now a c.requires.0 c.requires.1 c.bump.ensures c.expect_ident.ensures c.in-Ok.is c.end_clause.ensures)

@@ -21,14 +21,14 @@ push-requires c =
 
 pub returns-then-peek-eq-RPAREN : goal.returns-then-peek-eq-RPAREN
 returns-then-peek-eq-RPAREN c = λ top.
-    empty_turn c.requires.1 (left_of c.in-Left.is c.enter.ensures) c.requires.2 c.bump-next.ensures
+    empty_turn c.requires.1 (left_of c.in-Ok.is c.enter.ensures) c.requires.2 c.bump-next.ensures
     (sym c.peek.ensures ∙ c.if-peek-eq-RPAREN.true) c.empty_call.ensures
 
-pub returns-in-Refused : goal.returns-in-Refused
-returns-in-Refused c = λ top.
-    spent_turn c.requires.1 (code LParen) c.requires.2 tt (spent_of c.in-Refused.is c.enter.ensures)
+pub returns-in-Err : goal.returns-in-Err
+returns-in-Err c = λ top.
+    spent_turn c.requires.1 (code LParen) c.requires.2 tt (spent_of c.in-Err.is c.enter.ensures)
 
 pub returns-else-peek-eq-RPAREN : goal.returns-else-peek-eq-RPAREN
 returns-else-peek-eq-RPAREN c = λ top.
-    call_turn c.requires.1 (left_of c.in-Left.is c.enter.ensures) c.requires.2 c.bump-next.ensures
+    call_turn c.requires.1 (left_of c.in-Ok.is c.enter.ensures) c.requires.2 c.bump-next.ensures
     (λ z. c.if-peek-eq-RPAREN.false (c.peek.ensures ∙ z)) c.push.ensures

@@ -12,7 +12,7 @@ use Rattle.quanta_engine.proofs.expr.call_args.Goals as goal
 
 pub more_args-requires : goal.more_args-requires
 more_args-requires c =
-    let y = took_of c.in-Node.is (c.expr.ensures blank) in
+    let y = took_of c.in-Ok.is (c.expr.ensures blank) in
     let z = took_more y in
     (took_ready blank expr c.args.allowance c.requires.0 y, c.requires.1, omega arith)
 
@@ -21,13 +21,13 @@ returns-then-peek-eq-RPAREN c = λ src.
     took_all (args_none src c.args.tokens.now c.args.at.0 c.args.allowance c.requires.0.inside
     (sym c.peek.ensures ∙ c.if-peek-eq-RPAREN.true) refl refl)
 
-pub returns-in-Refused : goal.returns-in-Refused
-returns-in-Refused c = λ src.
+pub returns-in-Err : goal.returns-in-Err
+returns-in-Err c = λ src.
     failed_all (args_first_bad src c.args.tokens.now c.args.at.0 c.args.allowance c.requires.0.inside
-    (λ z. c.if-peek-eq-RPAREN.false (c.peek.ensures ∙ z)) (failed_of c.in-Refused.is (c.expr.ensures src)))
+    (λ z. c.if-peek-eq-RPAREN.false (c.peek.ensures ∙ z)) (failed_of c.in-Err.is (c.expr.ensures src)))
 
-pub returns-in-Node : goal.returns-in-Node
-returns-in-Node c = λ src.
+pub returns-in-Ok : goal.returns-in-Ok
+returns-in-Ok c = λ src.
     c.more_args.ensures src _ _ _
     (args_first src c.args.tokens.now c.args.at.0 c.args.allowance c.requires.0.inside
-    (λ z. c.if-peek-eq-RPAREN.false (c.peek.ensures ∙ z)) (took_of c.in-Node.is (c.expr.ensures src)))
+    (λ z. c.if-peek-eq-RPAREN.false (c.peek.ensures ∙ z)) (took_of c.in-Ok.is (c.expr.ensures src)))

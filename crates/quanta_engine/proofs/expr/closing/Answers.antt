@@ -7,10 +7,10 @@ use Rattle.quanta_engine.proofs.expr.closing.Goals as goal
 pub overflow_add-result : goal.overflow_add-result
 overflow_add-result c = omega (arith, c.requires.complete.poised.allowance)
 
-pub returns-in-Refused : goal.returns-in-Refused
-returns-in-Refused c =
-    close_turn c.requires c.in-Refused.is c.close.ensures
+pub returns-in-Err : goal.returns-in-Err
+returns-in-Err c =
+    close_turn c.requires c.in-Err.is c.close.ensures
 
-pub returns-in-Node : goal.returns-in-Node
-returns-in-Node c =
-    close_turn c.requires c.in-Node.is c.close.ensures
+pub returns-in-Ok : goal.returns-in-Ok
+returns-in-Ok c =
+    close_turn c.requires c.in-Ok.is c.close.ensures

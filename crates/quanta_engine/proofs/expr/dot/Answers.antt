@@ -12,16 +12,16 @@ access-requires c =
     let r = c.requires.0 in
     ready_behind (code Dot) (λ u. u) r c.requires.2 refl
 
-pub returns-in-Refused : goal.returns-in-Refused
-returns-in-Refused c = λ top.
-    spent_turn c.requires.1 (code Dot) c.requires.2 tt (spent_of c.in-Refused.is c.enter.ensures)
+pub returns-in-Err : goal.returns-in-Err
+returns-in-Err c = λ top.
+    spent_turn c.requires.1 (code Dot) c.requires.2 tt (spent_of c.in-Err.is c.enter.ensures)
 
-pub returns-in-Refused-access : goal.returns-in-Refused-access
-returns-in-Refused-access c = λ top.
-    dot_turn c.requires.1 (left_of c.in-Left.is c.enter.ensures) c.requires.2 c.in-Refused-access.is
+pub returns-in-Err-access : goal.returns-in-Err-access
+returns-in-Err-access c = λ top.
+    dot_turn c.requires.1 (left_of c.in-Ok.is c.enter.ensures) c.requires.2 c.in-Err-access.is
     c.access.ensures
 
-pub returns-in-Node : goal.returns-in-Node
-returns-in-Node c = λ top.
-    dot_turn c.requires.1 (left_of c.in-Left.is c.enter.ensures) c.requires.2 c.in-Node.is
+pub returns-in-Ok-access : goal.returns-in-Ok-access
+returns-in-Ok-access c = λ top.
+    dot_turn c.requires.1 (left_of c.in-Ok.is c.enter.ensures) c.requires.2 c.in-Ok-access.is
     c.access.ensures

@@ -4,12 +4,12 @@ use mathlib.Core.Path.{ap}
 use Rattle.quanta_engine.specs.Turns.{staying}
 use Rattle.quanta_engine.proofs.expr.empty_call.Goals as goal
 
-pub returns-in-Refused : goal.returns-in-Refused
-returns-in-Refused c =
-    let e = ap (staying c.args.allowance) c.in-Refused.is in
+pub returns-in-Err : goal.returns-in-Err
+returns-in-Err c =
+    let e = ap (staying c.args.allowance) c.in-Err.is in
     record { answer = c.close.result; closes = c.close.ensures; is = e }
 
-pub returns-in-Node : goal.returns-in-Node
-returns-in-Node c =
-    let e = ap (staying c.args.allowance) c.in-Node.is in
+pub returns-in-Ok : goal.returns-in-Ok
+returns-in-Ok c =
+    let e = ap (staying c.args.allowance) c.in-Ok.is in
     record { answer = c.close.result; closes = c.close.ensures; is = e }

@@ -35,19 +35,19 @@ returns-then-peek-ne-COMMA c = λ src o t n w.
     let stop = comma_stop g arguments i.ready.inside (λ z. c.if-peek-ne-COMMA.true (c.peek.ensures ∙ z)) in
     took_all (rolled g stop i.ready.inside)
 
-pub returns-in-Refused : goal.returns-in-Refused
-returns-in-Refused c = λ src o t n w.
+pub returns-in-Err : goal.returns-in-Err
+returns-in-Err c = λ src o t n w.
     let comma = sym c.peek.ensures ∙ c.if-peek-ne-COMMA.false in
     let i = c.loop-at.invariant in
     failed_all (comma_bad (i.carries src o t n _ w) arguments i.ready.inside comma c.bump.ensures
-    (failed_of c.in-Refused.is (c.expr.ensures src)))
+    (failed_of c.in-Err.is (c.expr.ensures src)))
 
 -- ONE ARGUMENT MORE
 pub loop-at-smaller : goal.loop-at-smaller
 loop-at-smaller c =
     let comma = sym c.peek.ensures ∙ c.if-peek-ne-COMMA.false in
     let further = ready_behind (code Comma) (λ u. u) c.loop-at.invariant.ready comma c.bump.ensures in
-    let z = took_of c.in-Node.is (c.expr.ensures blank) in
+    let z = took_of c.in-Ok.is (c.expr.ensures blank) in
     let y = took_onward blank expr c.args.allowance further.inside z in
     omega (arith, y.0, c.bump.ensures, c.loop-at.invariant.ready.inside)
 
@@ -56,8 +56,8 @@ loop-at-preserved c =
     let comma = sym c.peek.ensures ∙ c.if-peek-ne-COMMA.false in
     let further = ready_behind (code Comma) (λ u. u) c.loop-at.invariant.ready comma c.bump.ensures in
     let i = c.loop-at.invariant in
-    let y = took_of c.in-Node.is (c.expr.ensures blank) in
+    let y = took_of c.in-Ok.is (c.expr.ensures blank) in
     rolling_on i
     (λ src o t n z g. comma_on g arguments i.ready.inside comma c.bump.ensures
-    (took_of c.in-Node.is (c.expr.ensures src)) refl)
+    (took_of c.in-Ok.is (c.expr.ensures src)) refl)
     (took_ready blank expr c.args.allowance further y) refl (took_more y) c.expr.auto.tree

@@ -10,10 +10,10 @@ overflow_add-result c = omega (arith, c.requires.poised.allowance)
 pub returns-in-0 : goal.returns-in-0
 returns-in-0 c = whole_turn c.requires c.in-0.is
 
-pub returns-in-Refused : goal.returns-in-Refused
-returns-in-Refused c =
-    parens_turn c.requires c.in-1.is c.in-Refused.is c.parens.ensures
+pub returns-in-Err : goal.returns-in-Err
+returns-in-Err c =
+    parens_turn c.requires c.in-1.is c.in-Err.is c.parens.ensures
 
-pub returns-in-Node : goal.returns-in-Node
-returns-in-Node c =
-    parens_turn c.requires c.in-1.is c.in-Node.is c.parens.ensures
+pub returns-in-Ok : goal.returns-in-Ok
+returns-in-Ok c =
+    parens_turn c.requires c.in-1.is c.in-Ok.is c.parens.ensures

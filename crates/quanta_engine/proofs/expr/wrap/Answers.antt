@@ -17,16 +17,16 @@ expect-requires c =
 pub enclose-requires : goal.enclose-requires
 enclose-requires c =
     let l = keyword_past c.requires.2.word c.requires.0.closed c.requires.0.inside c.requires.2.is in
-    let n = next_of c.in-Next.is c.expect.ensures in
+    let n = next_of c.in-Ok.is c.expect.ensures in
     let h : c.bump.result.0 < size c.args.tokens.now = omega (arith, c.bump.ensures) in
     let z = past_as (code LParen) (λ u. u) c.requires.0.closed h n.0 in
     (c.requires.0.inside, omega (arith, n.1))
 
-pub returns-in-Refused : goal.returns-in-Refused
-returns-in-Refused c = λ words.
-    unwrapped_turn c.requires.1 c.requires.2 c.bump.ensures (lacks_of c.in-Refused.is c.expect.ensures)
+pub returns-in-Err : goal.returns-in-Err
+returns-in-Err c = λ words.
+    unwrapped_turn c.requires.1 c.requires.2 c.bump.ensures (lacks_of c.in-Err.is c.expect.ensures)
 
-pub returns-in-Next : goal.returns-in-Next
-returns-in-Next c = λ words.
-    wrap_turn c.requires.1 c.requires.2 c.bump.ensures (next_of c.in-Next.is c.expect.ensures)
+pub returns-in-Ok : goal.returns-in-Ok
+returns-in-Ok c = λ words.
+    wrap_turn c.requires.1 c.requires.2 c.bump.ensures (next_of c.in-Ok.is c.expect.ensures)
     c.enclose.ensures

@@ -13,10 +13,10 @@ pub expect_ident-requires : goal.expect_ident-requires
 expect_ident-requires c = (asset_key blank c.args.tokens.now 0 c.requires.0 c.bump.ensures c.args.tree.now c.requires.1).ready
 
 pub close_semi-requires : goal.close_semi-requires
-close_semi-requires c = ((named (asset_key blank c.args.tokens.now 0 c.requires.0 c.bump.ensures c.args.tree.now c.requires.1) c.expect_ident.ensures c.in-Node.is).ready, ready_small c.requires.0)
+close_semi-requires c = ((named (asset_key blank c.args.tokens.now 0 c.requires.0 c.bump.ensures c.args.tree.now c.requires.1) c.expect_ident.ensures c.in-Ok.is).ready, ready_small c.requires.0)
 
-pub returns-in-Refused : goal.returns-in-Refused
-returns-in-Refused c = λ src a. failed (unnamed (asset_key src c.args.tokens.now a c.requires.0 c.bump.ensures c.args.tree.now c.requires.1) c.expect_ident.ensures c.in-Refused.is)
+pub returns-in-Err : goal.returns-in-Err
+returns-in-Err c = λ src a. failed (unnamed (asset_key src c.args.tokens.now a c.requires.0 c.bump.ensures c.args.tree.now c.requires.1) c.expect_ident.ensures c.in-Err.is)
 
-pub returns-in-Node : goal.returns-in-Node
-returns-in-Node c = λ src a. semi_shut (node_code asset_node) refl (named (asset_key src c.args.tokens.now a c.requires.0 c.bump.ensures c.args.tree.now c.requires.1) c.expect_ident.ensures c.in-Node.is) refl (closes_as c.peek_span-span.ensures c.close_semi.ensures)
+pub returns-in-Ok : goal.returns-in-Ok
+returns-in-Ok c = λ src a. semi_shut (node_code asset_node) refl (named (asset_key src c.args.tokens.now a c.requires.0 c.bump.ensures c.args.tree.now c.requires.1) c.expect_ident.ensures c.in-Ok.is) refl (closes_as c.peek_span-span.ensures c.close_semi.ensures)

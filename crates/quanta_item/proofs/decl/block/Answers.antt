@@ -6,22 +6,22 @@ use Rattle.quanta_grammar.specs.Refine.{blank}
 use Rattle.quanta_item.proofs.decl.block.Goals as goal
 
 pub stmts-requires : goal.stmts-requires
-stmts-requires c = opened_ready blank c.args.tokens.now c.args.allowance c.requires c.args.tree.now c.expect.ensures c.in-Next.is
+stmts-requires c = opened_ready blank c.args.tokens.now c.args.allowance c.requires c.args.tree.now c.expect.ensures c.in-Ok.is
 
-pub expect-requires-in-Nodes : goal.expect-requires-in-Nodes
-expect-requires-in-Nodes c = let z = filled_ready blank c.args.tokens.now c.args.allowance c.requires c.args.tree.now c.expect.ensures c.in-Next.is (c.stmts.ensures blank) c.in-Nodes.is in (z.inside, z.closed.few)
+pub expect-requires-in-Ok-stmts : goal.expect-requires-in-Ok-stmts
+expect-requires-in-Ok-stmts c = let z = filled_ready blank c.args.tokens.now c.args.allowance c.requires c.args.tree.now c.expect.ensures c.in-Ok.is (c.stmts.ensures blank) c.in-Ok-stmts.is in (z.inside, z.closed.few)
 
-pub peek_span-requires-in-Next-expect : goal.peek_span-requires-in-Next-expect
-peek_span-requires-in-Next-expect c = (filled_ready blank c.args.tokens.now c.args.allowance c.requires c.args.tree.now c.expect.ensures c.in-Next.is (c.stmts.ensures blank) c.in-Nodes.is).inside
+pub peek_span-requires-in-Ok-expect : goal.peek_span-requires-in-Ok-expect
+peek_span-requires-in-Ok-expect c = (filled_ready blank c.args.tokens.now c.args.allowance c.requires c.args.tree.now c.expect.ensures c.in-Ok.is (c.stmts.ensures blank) c.in-Ok-stmts.is).inside
 
-pub returns-in-Refused : goal.returns-in-Refused
-returns-in-Refused c = λ src. failed_block (block_unopened src c.args.tokens.now c.args.allowance c.requires c.args.tree.now c.expect.ensures c.in-Refused.is)
+pub returns-in-Err : goal.returns-in-Err
+returns-in-Err c = λ src. failed_block (block_unopened src c.args.tokens.now c.args.allowance c.requires c.args.tree.now c.expect.ensures c.in-Err.is)
 
-pub returns-in-Refused-stmts : goal.returns-in-Refused-stmts
-returns-in-Refused-stmts c = λ src. failed_block (block_bad src c.args.tokens.now c.args.allowance c.requires c.args.tree.now c.expect.ensures c.in-Next.is (c.stmts.ensures src) c.in-Refused-stmts.is)
+pub returns-in-Err-stmts : goal.returns-in-Err-stmts
+returns-in-Err-stmts c = λ src. failed_block (block_bad src c.args.tokens.now c.args.allowance c.requires c.args.tree.now c.expect.ensures c.in-Ok.is (c.stmts.ensures src) c.in-Err-stmts.is)
 
-pub returns-in-Refused-expect : goal.returns-in-Refused-expect
-returns-in-Refused-expect c = λ src. failed_block (block_unclosed src c.args.tokens.now c.args.allowance c.requires c.args.tree.now c.expect.ensures c.in-Next.is (c.stmts.ensures src) c.in-Nodes.is c.expect-in-Nodes.ensures c.in-Refused-expect.is)
+pub returns-in-Err-expect : goal.returns-in-Err-expect
+returns-in-Err-expect c = λ src. failed_block (block_unclosed src c.args.tokens.now c.args.allowance c.requires c.args.tree.now c.expect.ensures c.in-Ok.is (c.stmts.ensures src) c.in-Ok-stmts.is c.expect-in-Ok-stmts.ensures c.in-Err-expect.is)
 
-pub returns-in-Next-expect : goal.returns-in-Next-expect
-returns-in-Next-expect c = λ src. took_block (block_took src c.args.tokens.now c.args.allowance c.requires c.args.tree.now c.expect.ensures c.in-Next.is (c.stmts.ensures src) c.in-Nodes.is c.expect-in-Nodes.ensures c.in-Next-expect.is refl refl refl (joined_as c.join.ensures c.peek_span.ensures c.peek_span-in-Next-expect.ensures))
+pub returns-in-Ok-expect : goal.returns-in-Ok-expect
+returns-in-Ok-expect c = λ src. took_block (block_took src c.args.tokens.now c.args.allowance c.requires c.args.tree.now c.expect.ensures c.in-Ok.is (c.stmts.ensures src) c.in-Ok-stmts.is c.expect-in-Ok-stmts.ensures c.in-Ok-expect.is refl refl refl (joined_as c.join.ensures c.peek_span.ensures c.peek_span-in-Ok-expect.ensures))

@@ -13,38 +13,38 @@ use Rattle.quanta_item.proofs.decl.entry_decl.Goals as goal
 pub expect_ident-requires : goal.expect_ident-requires
 expect_ident-requires c = (entry_key (text c.args.edition c.args.src.now) c.args.tokens.now c.args.allowance c.requires.0 c.bump.ensures c.args.tree.now c.requires.1).ready
 
-pub returns-in-Refused : goal.returns-in-Refused
-returns-in-Refused c = failed (unnamed (entry_key (text c.args.edition c.args.src.now) c.args.tokens.now c.args.allowance c.requires.0 c.bump.ensures c.args.tree.now c.requires.1) c.expect_ident.ensures c.in-Refused.is)
+pub returns-in-Err : goal.returns-in-Err
+returns-in-Err c = failed (unnamed (entry_key (text c.args.edition c.args.src.now) c.args.tokens.now c.args.allowance c.requires.0 c.bump.ensures c.args.tree.now c.requires.1) c.expect_ident.ensures c.in-Err.is)
 
 pub param_list-requires : goal.param_list-requires
-param_list-requires c = (named (entry_key (text c.args.edition c.args.src.now) c.args.tokens.now c.args.allowance c.requires.0 c.bump.ensures c.args.tree.now c.requires.1) c.expect_ident.ensures c.in-Node.is).ready
+param_list-requires c = (named (entry_key (text c.args.edition c.args.src.now) c.args.tokens.now c.args.allowance c.requires.0 c.bump.ensures c.args.tree.now c.requires.1) c.expect_ident.ensures c.in-Ok.is).ready
 
-pub returns-in-Refused-param_list : goal.returns-in-Refused-param_list
-returns-in-Refused-param_list c = failed (unlisted param_list tt (named (entry_key (text c.args.edition c.args.src.now) c.args.tokens.now c.args.allowance c.requires.0 c.bump.ensures c.args.tree.now c.requires.1) c.expect_ident.ensures c.in-Node.is) c.param_list.ensures c.in-Refused-param_list.is)
+pub returns-in-Err-param_list : goal.returns-in-Err-param_list
+returns-in-Err-param_list c = failed (unlisted param_list tt (named (entry_key (text c.args.edition c.args.src.now) c.args.tokens.now c.args.allowance c.requires.0 c.bump.ensures c.args.tree.now c.requires.1) c.expect_ident.ensures c.in-Ok.is) c.param_list.ensures c.in-Err-param_list.is)
 
 pub clauses-requires : goal.clauses-requires
-clauses-requires c = (listed_in param_list tt (named (entry_key (text c.args.edition c.args.src.now) c.args.tokens.now c.args.allowance c.requires.0 c.bump.ensures c.args.tree.now c.requires.1) c.expect_ident.ensures c.in-Node.is) c.param_list.ensures c.in-Nodes.is).ready
+clauses-requires c = (listed_in param_list tt (named (entry_key (text c.args.edition c.args.src.now) c.args.tokens.now c.args.allowance c.requires.0 c.bump.ensures c.args.tree.now c.requires.1) c.expect_ident.ensures c.in-Ok.is) c.param_list.ensures c.in-Ok-param_list.is).ready
 
-pub returns-in-Refused-clauses : goal.returns-in-Refused-clauses
-returns-in-Refused-clauses c = failed (unlisted clauses tt (listed_in param_list tt (named (entry_key (text c.args.edition c.args.src.now) c.args.tokens.now c.args.allowance c.requires.0 c.bump.ensures c.args.tree.now c.requires.1) c.expect_ident.ensures c.in-Node.is) c.param_list.ensures c.in-Nodes.is) (c.clauses.ensures c.args.edition) c.in-Refused-clauses.is)
+pub returns-in-Err-clauses : goal.returns-in-Err-clauses
+returns-in-Err-clauses c = failed (unlisted clauses tt (listed_in param_list tt (named (entry_key (text c.args.edition c.args.src.now) c.args.tokens.now c.args.allowance c.requires.0 c.bump.ensures c.args.tree.now c.requires.1) c.expect_ident.ensures c.in-Ok.is) c.param_list.ensures c.in-Ok-param_list.is) (c.clauses.ensures c.args.edition) c.in-Err-clauses.is)
 
 pub block-requires : goal.block-requires
-block-requires c = (listed_in clauses tt (listed_in param_list tt (named (entry_key (text c.args.edition c.args.src.now) c.args.tokens.now c.args.allowance c.requires.0 c.bump.ensures c.args.tree.now c.requires.1) c.expect_ident.ensures c.in-Node.is) c.param_list.ensures c.in-Nodes.is) (c.clauses.ensures c.args.edition) c.in-Nodes-clauses.is).ready
+block-requires c = (listed_in clauses tt (listed_in param_list tt (named (entry_key (text c.args.edition c.args.src.now) c.args.tokens.now c.args.allowance c.requires.0 c.bump.ensures c.args.tree.now c.requires.1) c.expect_ident.ensures c.in-Ok.is) c.param_list.ensures c.in-Ok-param_list.is) (c.clauses.ensures c.args.edition) c.in-Ok-clauses.is).ready
 
 pub overflow_add-children : goal.overflow_add-children
-overflow_add-children c = omega (arith, four_small (name_few (entry_key (text c.args.edition c.args.src.now) c.args.tokens.now c.args.allowance c.requires.0 c.bump.ensures c.args.tree.now c.requires.1) c.expect_ident.ensures c.in-Node.is) (all_of c.in-Nodes.is c.param_list.ensures) (all_of c.in-Nodes-clauses.is (c.clauses.ensures c.args.edition)) (block_of c.in-Body.is (c.block.ensures (text c.args.edition c.args.src.now))) (block_ready (text c.args.edition c.args.src.now) c.args.allowance (listed_in clauses tt (listed_in param_list tt (named (entry_key (text c.args.edition c.args.src.now) c.args.tokens.now c.args.allowance c.requires.0 c.bump.ensures c.args.tree.now c.requires.1) c.expect_ident.ensures c.in-Node.is) c.param_list.ensures c.in-Nodes.is) (c.clauses.ensures c.args.edition) c.in-Nodes-clauses.is).ready (block_of c.in-Body.is (c.block.ensures (text c.args.edition c.args.src.now)))))
+overflow_add-children c = omega (arith, four_small (name_few (entry_key (text c.args.edition c.args.src.now) c.args.tokens.now c.args.allowance c.requires.0 c.bump.ensures c.args.tree.now c.requires.1) c.expect_ident.ensures c.in-Ok.is) (all_of c.in-Ok-param_list.is c.param_list.ensures) (all_of c.in-Ok-clauses.is (c.clauses.ensures c.args.edition)) (block_of c.in-Ok-block.is (c.block.ensures (text c.args.edition c.args.src.now))) (block_ready (text c.args.edition c.args.src.now) c.args.allowance (listed_in clauses tt (listed_in param_list tt (named (entry_key (text c.args.edition c.args.src.now) c.args.tokens.now c.args.allowance c.requires.0 c.bump.ensures c.args.tree.now c.requires.1) c.expect_ident.ensures c.in-Ok.is) c.param_list.ensures c.in-Ok-param_list.is) (c.clauses.ensures c.args.edition) c.in-Ok-clauses.is).ready (block_of c.in-Ok-block.is (c.block.ensures (text c.args.edition c.args.src.now)))))
 
-pub overflow_add-children-in-Body : goal.overflow_add-children-in-Body
-overflow_add-children-in-Body c = omega (arith, four_small (name_few (entry_key (text c.args.edition c.args.src.now) c.args.tokens.now c.args.allowance c.requires.0 c.bump.ensures c.args.tree.now c.requires.1) c.expect_ident.ensures c.in-Node.is) (all_of c.in-Nodes.is c.param_list.ensures) (all_of c.in-Nodes-clauses.is (c.clauses.ensures c.args.edition)) (block_of c.in-Body.is (c.block.ensures (text c.args.edition c.args.src.now))) (block_ready (text c.args.edition c.args.src.now) c.args.allowance (listed_in clauses tt (listed_in param_list tt (named (entry_key (text c.args.edition c.args.src.now) c.args.tokens.now c.args.allowance c.requires.0 c.bump.ensures c.args.tree.now c.requires.1) c.expect_ident.ensures c.in-Node.is) c.param_list.ensures c.in-Nodes.is) (c.clauses.ensures c.args.edition) c.in-Nodes-clauses.is).ready (block_of c.in-Body.is (c.block.ensures (text c.args.edition c.args.src.now)))))
+pub overflow_add-children-in-Ok-block : goal.overflow_add-children-in-Ok-block
+overflow_add-children-in-Ok-block c = omega (arith, four_small (name_few (entry_key (text c.args.edition c.args.src.now) c.args.tokens.now c.args.allowance c.requires.0 c.bump.ensures c.args.tree.now c.requires.1) c.expect_ident.ensures c.in-Ok.is) (all_of c.in-Ok-param_list.is c.param_list.ensures) (all_of c.in-Ok-clauses.is (c.clauses.ensures c.args.edition)) (block_of c.in-Ok-block.is (c.block.ensures (text c.args.edition c.args.src.now))) (block_ready (text c.args.edition c.args.src.now) c.args.allowance (listed_in clauses tt (listed_in param_list tt (named (entry_key (text c.args.edition c.args.src.now) c.args.tokens.now c.args.allowance c.requires.0 c.bump.ensures c.args.tree.now c.requires.1) c.expect_ident.ensures c.in-Ok.is) c.param_list.ensures c.in-Ok-param_list.is) (c.clauses.ensures c.args.edition) c.in-Ok-clauses.is).ready (block_of c.in-Ok-block.is (c.block.ensures (text c.args.edition c.args.src.now)))))
 
-pub overflow_add-children-in-Body-2 : goal.overflow_add-children-in-Body-2
-overflow_add-children-in-Body-2 c = omega (arith, four_small (name_few (entry_key (text c.args.edition c.args.src.now) c.args.tokens.now c.args.allowance c.requires.0 c.bump.ensures c.args.tree.now c.requires.1) c.expect_ident.ensures c.in-Node.is) (all_of c.in-Nodes.is c.param_list.ensures) (all_of c.in-Nodes-clauses.is (c.clauses.ensures c.args.edition)) (block_of c.in-Body.is (c.block.ensures (text c.args.edition c.args.src.now))) (block_ready (text c.args.edition c.args.src.now) c.args.allowance (listed_in clauses tt (listed_in param_list tt (named (entry_key (text c.args.edition c.args.src.now) c.args.tokens.now c.args.allowance c.requires.0 c.bump.ensures c.args.tree.now c.requires.1) c.expect_ident.ensures c.in-Node.is) c.param_list.ensures c.in-Nodes.is) (c.clauses.ensures c.args.edition) c.in-Nodes-clauses.is).ready (block_of c.in-Body.is (c.block.ensures (text c.args.edition c.args.src.now)))))
+pub overflow_add-children-in-Ok-block-2 : goal.overflow_add-children-in-Ok-block-2
+overflow_add-children-in-Ok-block-2 c = omega (arith, four_small (name_few (entry_key (text c.args.edition c.args.src.now) c.args.tokens.now c.args.allowance c.requires.0 c.bump.ensures c.args.tree.now c.requires.1) c.expect_ident.ensures c.in-Ok.is) (all_of c.in-Ok-param_list.is c.param_list.ensures) (all_of c.in-Ok-clauses.is (c.clauses.ensures c.args.edition)) (block_of c.in-Ok-block.is (c.block.ensures (text c.args.edition c.args.src.now))) (block_ready (text c.args.edition c.args.src.now) c.args.allowance (listed_in clauses tt (listed_in param_list tt (named (entry_key (text c.args.edition c.args.src.now) c.args.tokens.now c.args.allowance c.requires.0 c.bump.ensures c.args.tree.now c.requires.1) c.expect_ident.ensures c.in-Ok.is) c.param_list.ensures c.in-Ok-param_list.is) (c.clauses.ensures c.args.edition) c.in-Ok-clauses.is).ready (block_of c.in-Ok-block.is (c.block.ensures (text c.args.edition c.args.src.now)))))
 
 pub put_decl-requires : goal.put_decl-requires
-put_decl-requires c = ((block_ready (text c.args.edition c.args.src.now) c.args.allowance (listed_in clauses tt (listed_in param_list tt (named (entry_key (text c.args.edition c.args.src.now) c.args.tokens.now c.args.allowance c.requires.0 c.bump.ensures c.args.tree.now c.requires.1) c.expect_ident.ensures c.in-Node.is) c.param_list.ensures c.in-Nodes.is) (c.clauses.ensures c.args.edition) c.in-Nodes-clauses.is).ready (block_of c.in-Body.is (c.block.ensures (text c.args.edition c.args.src.now)))), c.requires.0.inside)
+put_decl-requires c = ((block_ready (text c.args.edition c.args.src.now) c.args.allowance (listed_in clauses tt (listed_in param_list tt (named (entry_key (text c.args.edition c.args.src.now) c.args.tokens.now c.args.allowance c.requires.0 c.bump.ensures c.args.tree.now c.requires.1) c.expect_ident.ensures c.in-Ok.is) c.param_list.ensures c.in-Ok-param_list.is) (c.clauses.ensures c.args.edition) c.in-Ok-clauses.is).ready (block_of c.in-Ok-block.is (c.block.ensures (text c.args.edition c.args.src.now)))), c.requires.0.inside)
 
-pub returns-in-Refused-block : goal.returns-in-Refused-block
-returns-in-Refused-block c = failed (bodiless (node_code entry_node) refl (listed_in clauses tt (listed_in param_list tt (named (entry_key (text c.args.edition c.args.src.now) c.args.tokens.now c.args.allowance c.requires.0 c.bump.ensures c.args.tree.now c.requires.1) c.expect_ident.ensures c.in-Node.is) c.param_list.ensures c.in-Nodes.is) (c.clauses.ensures c.args.edition) c.in-Nodes-clauses.is) (block_failed_of c.in-Refused-block.is (c.block.ensures (text c.args.edition c.args.src.now))))
+pub returns-in-Err-block : goal.returns-in-Err-block
+returns-in-Err-block c = failed (bodiless (node_code entry_node) refl (listed_in clauses tt (listed_in param_list tt (named (entry_key (text c.args.edition c.args.src.now) c.args.tokens.now c.args.allowance c.requires.0 c.bump.ensures c.args.tree.now c.requires.1) c.expect_ident.ensures c.in-Ok.is) c.param_list.ensures c.in-Ok-param_list.is) (c.clauses.ensures c.args.edition) c.in-Ok-clauses.is) (block_failed_of c.in-Err-block.is (c.block.ensures (text c.args.edition c.args.src.now))))
 
-pub returns-in-Body : goal.returns-in-Body
-returns-in-Body c = took (bodied (node_code entry_node) refl (listed_in clauses tt (listed_in param_list tt (named (entry_key (text c.args.edition c.args.src.now) c.args.tokens.now c.args.allowance c.requires.0 c.bump.ensures c.args.tree.now c.requires.1) c.expect_ident.ensures c.in-Node.is) c.param_list.ensures c.in-Nodes.is) (c.clauses.ensures c.args.edition) c.in-Nodes-clauses.is) (block_of c.in-Body.is (c.block.ensures (text c.args.edition c.args.src.now))) (all_four (name_few (entry_key (text c.args.edition c.args.src.now) c.args.tokens.now c.args.allowance c.requires.0 c.bump.ensures c.args.tree.now c.requires.1) c.expect_ident.ensures c.in-Node.is) (all_of c.in-Nodes.is c.param_list.ensures) (all_of c.in-Nodes-clauses.is (c.clauses.ensures c.args.edition)) (block_of c.in-Body.is (c.block.ensures (text c.args.edition c.args.src.now))) (named (entry_key (text c.args.edition c.args.src.now) c.args.tokens.now c.args.allowance c.requires.0 c.bump.ensures c.args.tree.now c.requires.1) c.expect_ident.ensures c.in-Node.is)) c.put_decl.ensures.0 c.put_decl.ensures.1)
+pub returns-in-Ok-block : goal.returns-in-Ok-block
+returns-in-Ok-block c = took (bodied (node_code entry_node) refl (listed_in clauses tt (listed_in param_list tt (named (entry_key (text c.args.edition c.args.src.now) c.args.tokens.now c.args.allowance c.requires.0 c.bump.ensures c.args.tree.now c.requires.1) c.expect_ident.ensures c.in-Ok.is) c.param_list.ensures c.in-Ok-param_list.is) (c.clauses.ensures c.args.edition) c.in-Ok-clauses.is) (block_of c.in-Ok-block.is (c.block.ensures (text c.args.edition c.args.src.now))) (all_four (name_few (entry_key (text c.args.edition c.args.src.now) c.args.tokens.now c.args.allowance c.requires.0 c.bump.ensures c.args.tree.now c.requires.1) c.expect_ident.ensures c.in-Ok.is) (all_of c.in-Ok-param_list.is c.param_list.ensures) (all_of c.in-Ok-clauses.is (c.clauses.ensures c.args.edition)) (block_of c.in-Ok-block.is (c.block.ensures (text c.args.edition c.args.src.now))) (named (entry_key (text c.args.edition c.args.src.now) c.args.tokens.now c.args.allowance c.requires.0 c.bump.ensures c.args.tree.now c.requires.1) c.expect_ident.ensures c.in-Ok.is)) c.put_decl.ensures.0 c.put_decl.ensures.1)

@@ -15,22 +15,22 @@ pub expect_ident-requires : goal.expect_ident-requires
 expect_ident-requires c = (event_key (text c.args.edition c.args.src.now) c.args.tokens.now c.args.allowance c.requires.0 c.bump.ensures c.args.tree.now c.requires.1).ready
 
 pub param_list-requires : goal.param_list-requires
-param_list-requires c = (named (event_key (text c.args.edition c.args.src.now) c.args.tokens.now c.args.allowance c.requires.0 c.bump.ensures c.args.tree.now c.requires.1) c.expect_ident.ensures c.in-Node.is).ready
+param_list-requires c = (named (event_key (text c.args.edition c.args.src.now) c.args.tokens.now c.args.allowance c.requires.0 c.bump.ensures c.args.tree.now c.requires.1) c.expect_ident.ensures c.in-Ok.is).ready
 
 pub peek_span-span-requires : goal.peek_span-span-requires
 peek_span-span-requires c = c.requires.0.inside
 
 pub overflow_add-children : goal.overflow_add-children
-overflow_add-children c = omega (arith, two_small (name_few (event_key (text c.args.edition c.args.src.now) c.args.tokens.now c.args.allowance c.requires.0 c.bump.ensures c.args.tree.now c.requires.1) c.expect_ident.ensures c.in-Node.is) (all_of c.in-Nodes.is c.param_list.ensures) (listed_in param_list tt (named (event_key (text c.args.edition c.args.src.now) c.args.tokens.now c.args.allowance c.requires.0 c.bump.ensures c.args.tree.now c.requires.1) c.expect_ident.ensures c.in-Node.is) c.param_list.ensures c.in-Nodes.is).ready)
+overflow_add-children c = omega (arith, two_small (name_few (event_key (text c.args.edition c.args.src.now) c.args.tokens.now c.args.allowance c.requires.0 c.bump.ensures c.args.tree.now c.requires.1) c.expect_ident.ensures c.in-Ok.is) (all_of c.in-Ok-param_list.is c.param_list.ensures) (listed_in param_list tt (named (event_key (text c.args.edition c.args.src.now) c.args.tokens.now c.args.allowance c.requires.0 c.bump.ensures c.args.tree.now c.requires.1) c.expect_ident.ensures c.in-Ok.is) c.param_list.ensures c.in-Ok-param_list.is).ready)
 
 pub close_semi-requires : goal.close_semi-requires
-close_semi-requires c = ((listed_in param_list tt (named (event_key (text c.args.edition c.args.src.now) c.args.tokens.now c.args.allowance c.requires.0 c.bump.ensures c.args.tree.now c.requires.1) c.expect_ident.ensures c.in-Node.is) c.param_list.ensures c.in-Nodes.is).ready, ready_small c.requires.0)
+close_semi-requires c = ((listed_in param_list tt (named (event_key (text c.args.edition c.args.src.now) c.args.tokens.now c.args.allowance c.requires.0 c.bump.ensures c.args.tree.now c.requires.1) c.expect_ident.ensures c.in-Ok.is) c.param_list.ensures c.in-Ok-param_list.is).ready, ready_small c.requires.0)
 
-pub returns-in-Refused : goal.returns-in-Refused
-returns-in-Refused c = failed (unnamed (event_key (text c.args.edition c.args.src.now) c.args.tokens.now c.args.allowance c.requires.0 c.bump.ensures c.args.tree.now c.requires.1) c.expect_ident.ensures c.in-Refused.is)
+pub returns-in-Err : goal.returns-in-Err
+returns-in-Err c = failed (unnamed (event_key (text c.args.edition c.args.src.now) c.args.tokens.now c.args.allowance c.requires.0 c.bump.ensures c.args.tree.now c.requires.1) c.expect_ident.ensures c.in-Err.is)
 
-pub returns-in-Refused-param_list : goal.returns-in-Refused-param_list
-returns-in-Refused-param_list c = failed (unlisted param_list tt (named (event_key (text c.args.edition c.args.src.now) c.args.tokens.now c.args.allowance c.requires.0 c.bump.ensures c.args.tree.now c.requires.1) c.expect_ident.ensures c.in-Node.is) c.param_list.ensures c.in-Refused-param_list.is)
+pub returns-in-Err-param_list : goal.returns-in-Err-param_list
+returns-in-Err-param_list c = failed (unlisted param_list tt (named (event_key (text c.args.edition c.args.src.now) c.args.tokens.now c.args.allowance c.requires.0 c.bump.ensures c.args.tree.now c.requires.1) c.expect_ident.ensures c.in-Ok.is) c.param_list.ensures c.in-Err-param_list.is)
 
-pub returns-in-Nodes : goal.returns-in-Nodes
-returns-in-Nodes c = semi_shut (node_code event_node) refl (listed_in param_list tt (named (event_key (text c.args.edition c.args.src.now) c.args.tokens.now c.args.allowance c.requires.0 c.bump.ensures c.args.tree.now c.requires.1) c.expect_ident.ensures c.in-Node.is) c.param_list.ensures c.in-Nodes.is) (listed_count param_list tt (named (event_key (text c.args.edition c.args.src.now) c.args.tokens.now c.args.allowance c.requires.0 c.bump.ensures c.args.tree.now c.requires.1) c.expect_ident.ensures c.in-Node.is) c.param_list.ensures c.in-Nodes.is) (closes_as c.peek_span-span.ensures c.close_semi.ensures)
+pub returns-in-Ok-param_list : goal.returns-in-Ok-param_list
+returns-in-Ok-param_list c = semi_shut (node_code event_node) refl (listed_in param_list tt (named (event_key (text c.args.edition c.args.src.now) c.args.tokens.now c.args.allowance c.requires.0 c.bump.ensures c.args.tree.now c.requires.1) c.expect_ident.ensures c.in-Ok.is) c.param_list.ensures c.in-Ok-param_list.is) (listed_count param_list tt (named (event_key (text c.args.edition c.args.src.now) c.args.tokens.now c.args.allowance c.requires.0 c.bump.ensures c.args.tree.now c.requires.1) c.expect_ident.ensures c.in-Ok.is) c.param_list.ensures c.in-Ok-param_list.is) (closes_as c.peek_span-span.ensures c.close_semi.ensures)

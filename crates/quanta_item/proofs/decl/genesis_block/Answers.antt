@@ -13,10 +13,10 @@ pub block-requires : goal.block-requires
 block-requires c = (genesis_key blank c.args.tokens.now c.args.allowance c.requires.0 c.bump.ensures c.args.tree.now c.requires.1).ready
 
 pub put_decl-requires : goal.put_decl-requires
-put_decl-requires c = (block_ready blank c.args.allowance (genesis_key blank c.args.tokens.now c.args.allowance c.requires.0 c.bump.ensures c.args.tree.now c.requires.1).ready (block_of c.in-Body.is (c.block.ensures blank)), c.requires.0.inside)
+put_decl-requires c = (block_ready blank c.args.allowance (genesis_key blank c.args.tokens.now c.args.allowance c.requires.0 c.bump.ensures c.args.tree.now c.requires.1).ready (block_of c.in-Ok.is (c.block.ensures blank)), c.requires.0.inside)
 
-pub returns-in-Refused : goal.returns-in-Refused
-returns-in-Refused c = λ src. failed (bodiless (node_code genesis_node) refl (genesis_key src c.args.tokens.now c.args.allowance c.requires.0 c.bump.ensures c.args.tree.now c.requires.1) (block_failed_of c.in-Refused.is (c.block.ensures src)))
+pub returns-in-Err : goal.returns-in-Err
+returns-in-Err c = λ src. failed (bodiless (node_code genesis_node) refl (genesis_key src c.args.tokens.now c.args.allowance c.requires.0 c.bump.ensures c.args.tree.now c.requires.1) (block_failed_of c.in-Err.is (c.block.ensures src)))
 
-pub returns-in-Body : goal.returns-in-Body
-returns-in-Body c = λ src. took (bodied (node_code genesis_node) refl (genesis_key src c.args.tokens.now c.args.allowance c.requires.0 c.bump.ensures c.args.tree.now c.requires.1) (block_of c.in-Body.is (c.block.ensures src)) (sym (by_itself (block_count none (block_of c.in-Body.is (c.block.ensures src))))) c.put_decl.ensures.0 c.put_decl.ensures.1)
+pub returns-in-Ok : goal.returns-in-Ok
+returns-in-Ok c = λ src. took (bodied (node_code genesis_node) refl (genesis_key src c.args.tokens.now c.args.allowance c.requires.0 c.bump.ensures c.args.tree.now c.requires.1) (block_of c.in-Ok.is (c.block.ensures src)) (sym (by_itself (block_count none (block_of c.in-Ok.is (c.block.ensures src))))) c.put_decl.ensures.0 c.put_decl.ensures.1)

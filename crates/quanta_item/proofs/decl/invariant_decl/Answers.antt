@@ -13,10 +13,10 @@ pub expr-requires : goal.expr-requires
 expr-requires c = (invariant_key blank c.args.tokens.now c.args.allowance c.requires.0 c.bump.ensures c.args.tree.now c.requires.1).ready
 
 pub close_semi-requires : goal.close_semi-requires
-close_semi-requires c = ((said (invariant_key blank c.args.tokens.now c.args.allowance c.requires.0 c.bump.ensures c.args.tree.now c.requires.1) (c.expr.ensures blank) c.in-Node.is).ready, ready_small c.requires.0)
+close_semi-requires c = ((said (invariant_key blank c.args.tokens.now c.args.allowance c.requires.0 c.bump.ensures c.args.tree.now c.requires.1) (c.expr.ensures blank) c.in-Ok.is).ready, ready_small c.requires.0)
 
-pub returns-in-Refused : goal.returns-in-Refused
-returns-in-Refused c = λ src. failed (unsaid (invariant_key src c.args.tokens.now c.args.allowance c.requires.0 c.bump.ensures c.args.tree.now c.requires.1) (c.expr.ensures src) c.in-Refused.is)
+pub returns-in-Err : goal.returns-in-Err
+returns-in-Err c = λ src. failed (unsaid (invariant_key src c.args.tokens.now c.args.allowance c.requires.0 c.bump.ensures c.args.tree.now c.requires.1) (c.expr.ensures src) c.in-Err.is)
 
-pub returns-in-Node : goal.returns-in-Node
-returns-in-Node c = λ src. semi_shut (node_code invariant_node) refl (said (invariant_key src c.args.tokens.now c.args.allowance c.requires.0 c.bump.ensures c.args.tree.now c.requires.1) (c.expr.ensures src) c.in-Node.is) refl (closes_as c.peek_span-span.ensures c.close_semi.ensures)
+pub returns-in-Ok : goal.returns-in-Ok
+returns-in-Ok c = λ src. semi_shut (node_code invariant_node) refl (said (invariant_key src c.args.tokens.now c.args.allowance c.requires.0 c.bump.ensures c.args.tree.now c.requires.1) (c.expr.ensures src) c.in-Ok.is) refl (closes_as c.peek_span-span.ensures c.close_semi.ensures)

@@ -14,16 +14,16 @@ pub expect-requires : goal.expect-requires
 expect-requires c = let z = (state_key (text c.args.edition c.args.src.now) c.args.tokens.now c.args.allowance c.requires.0 c.bump.ensures c.args.tree.now c.requires.1).ready in (z.inside, z.closed.few)
 
 pub fields-requires : goal.fields-requires
-fields-requires c = (opened (state_key (text c.args.edition c.args.src.now) c.args.tokens.now c.args.allowance c.requires.0 c.bump.ensures c.args.tree.now c.requires.1) c.expect.ensures c.in-Next.is).ready
+fields-requires c = (opened (state_key (text c.args.edition c.args.src.now) c.args.tokens.now c.args.allowance c.requires.0 c.bump.ensures c.args.tree.now c.requires.1) c.expect.ensures c.in-Ok.is).ready
 
 pub close-requires : goal.close-requires
-close-requires c = ((listed_in fields tt (opened (state_key (text c.args.edition c.args.src.now) c.args.tokens.now c.args.allowance c.requires.0 c.bump.ensures c.args.tree.now c.requires.1) c.expect.ensures c.in-Next.is) c.fields.ensures c.in-Nodes.is).ready, ready_small c.requires.0)
+close-requires c = ((listed_in fields tt (opened (state_key (text c.args.edition c.args.src.now) c.args.tokens.now c.args.allowance c.requires.0 c.bump.ensures c.args.tree.now c.requires.1) c.expect.ensures c.in-Ok.is) c.fields.ensures c.in-Ok-fields.is).ready, ready_small c.requires.0)
 
-pub returns-in-Refused : goal.returns-in-Refused
-returns-in-Refused c = failed (unopened (state_key (text c.args.edition c.args.src.now) c.args.tokens.now c.args.allowance c.requires.0 c.bump.ensures c.args.tree.now c.requires.1) c.expect.ensures c.in-Refused.is)
+pub returns-in-Err : goal.returns-in-Err
+returns-in-Err c = failed (unopened (state_key (text c.args.edition c.args.src.now) c.args.tokens.now c.args.allowance c.requires.0 c.bump.ensures c.args.tree.now c.requires.1) c.expect.ensures c.in-Err.is)
 
-pub returns-in-Refused-fields : goal.returns-in-Refused-fields
-returns-in-Refused-fields c = failed (unlisted fields tt (opened (state_key (text c.args.edition c.args.src.now) c.args.tokens.now c.args.allowance c.requires.0 c.bump.ensures c.args.tree.now c.requires.1) c.expect.ensures c.in-Next.is) c.fields.ensures c.in-Refused-fields.is)
+pub returns-in-Err-fields : goal.returns-in-Err-fields
+returns-in-Err-fields c = failed (unlisted fields tt (opened (state_key (text c.args.edition c.args.src.now) c.args.tokens.now c.args.allowance c.requires.0 c.bump.ensures c.args.tree.now c.requires.1) c.expect.ensures c.in-Ok.is) c.fields.ensures c.in-Err-fields.is)
 
-pub returns-in-Nodes : goal.returns-in-Nodes
-returns-in-Nodes c = brace_shut (node_code state_node) refl (listed_in fields tt (opened (state_key (text c.args.edition c.args.src.now) c.args.tokens.now c.args.allowance c.requires.0 c.bump.ensures c.args.tree.now c.requires.1) c.expect.ensures c.in-Next.is) c.fields.ensures c.in-Nodes.is) (by_itself (listed_count fields tt (opened (state_key (text c.args.edition c.args.src.now) c.args.tokens.now c.args.allowance c.requires.0 c.bump.ensures c.args.tree.now c.requires.1) c.expect.ensures c.in-Next.is) c.fields.ensures c.in-Nodes.is)) (closes_as c.peek_span-span.ensures c.close.ensures)
+pub returns-in-Ok-fields : goal.returns-in-Ok-fields
+returns-in-Ok-fields c = brace_shut (node_code state_node) refl (listed_in fields tt (opened (state_key (text c.args.edition c.args.src.now) c.args.tokens.now c.args.allowance c.requires.0 c.bump.ensures c.args.tree.now c.requires.1) c.expect.ensures c.in-Ok.is) c.fields.ensures c.in-Ok-fields.is) (by_itself (listed_count fields tt (opened (state_key (text c.args.edition c.args.src.now) c.args.tokens.now c.args.allowance c.requires.0 c.bump.ensures c.args.tree.now c.requires.1) c.expect.ensures c.in-Ok.is) c.fields.ensures c.in-Ok-fields.is)) (closes_as c.peek_span-span.ensures c.close.ensures)

@@ -19,17 +19,17 @@ peek-requires-in-loop-tree c = (c.loop-tree.invariant blank).ready.inside
 pub statement-requires : goal.statement-requires
 statement-requires c = (c.loop-tree.invariant blank).ready
 
-pub returns-in-Refused : goal.returns-in-Refused
-returns-in-Refused c = λ src. failed_all (more_bad stmts_run c.args.allowance c.requires (c.loop-tree.invariant src) c.peek.ensures c.loop-tree-test.true c.peek-in-loop-tree.ensures c.if-peek-ne-EOF.true (failed_of c.in-Refused.is (c.statement.ensures src)))
+pub returns-in-Err : goal.returns-in-Err
+returns-in-Err c = λ src. failed_all (more_bad stmts_run c.args.allowance c.requires (c.loop-tree.invariant src) c.peek.ensures c.loop-tree-test.true c.peek-in-loop-tree.ensures c.if-peek-ne-EOF.true (failed_of c.in-Err.is (c.statement.ensures src)))
 
 pub overflow_add-count : goal.overflow_add-count
 overflow_add-count c = omega (arith, (c.loop-tree.invariant blank).few, (c.loop-tree.invariant blank).ready.inside, (c.loop-tree.invariant blank).ready.fits, c.requires.closed.few)
 
 pub loop-tree-smaller : goal.loop-tree-smaller
-loop-tree-smaller c = omega (arith, (c.loop-tree.invariant blank).ready.inside, more_less stmts_run c.args.allowance c.requires (c.loop-tree.invariant blank) c.peek.ensures c.loop-tree-test.true c.peek-in-loop-tree.ensures c.if-peek-ne-EOF.true (took_of c.in-Node.is (c.statement.ensures blank)))
+loop-tree-smaller c = omega (arith, (c.loop-tree.invariant blank).ready.inside, more_less stmts_run c.args.allowance c.requires (c.loop-tree.invariant blank) c.peek.ensures c.loop-tree-test.true c.peek-in-loop-tree.ensures c.if-peek-ne-EOF.true (took_of c.in-Ok.is (c.statement.ensures blank)))
 
 pub loop-tree-preserved : goal.loop-tree-preserved
-loop-tree-preserved c = λ src. more_on stmts_run c.args.allowance c.requires (c.loop-tree.invariant src) c.peek.ensures c.loop-tree-test.true c.peek-in-loop-tree.ensures c.if-peek-ne-EOF.true (took_of c.in-Node.is (c.statement.ensures src)) refl c.statement.auto.tree
+loop-tree-preserved c = λ src. more_on stmts_run c.args.allowance c.requires (c.loop-tree.invariant src) c.peek.ensures c.loop-tree-test.true c.peek-in-loop-tree.ensures c.if-peek-ne-EOF.true (took_of c.in-Ok.is (c.statement.ensures src)) refl c.statement.auto.tree
 
 pub returns-else-peek-ne-EOF : goal.returns-else-peek-ne-EOF
 returns-else-peek-ne-EOF c = λ src. took_all (at_eof stmts_run c.args.allowance c.requires (c.loop-tree.invariant src) c.peek-in-loop-tree.ensures c.if-peek-ne-EOF.false refl refl refl)

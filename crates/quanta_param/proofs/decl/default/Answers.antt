@@ -14,8 +14,8 @@ returns-then-peek-ne-EQ c = λ src x. missing (default_missing src c.args.tokens
 pub expr-requires : goal.expr-requires
 expr-requires c = default_past blank c.args.tokens.now c.args.allowance c.requires fresh (sym c.peek.ensures ∙ c.if-peek-ne-EQ.false) c.bump.ensures
 
-pub returns-in-Refused : goal.returns-in-Refused
-returns-in-Refused c = λ src x. failed_opt (default_bad src c.args.tokens.now c.args.allowance c.requires x (sym c.peek.ensures ∙ c.if-peek-ne-EQ.false) c.bump.ensures (failed_of c.in-Refused.is (c.expr.ensures src)))
+pub returns-in-Err : goal.returns-in-Err
+returns-in-Err c = λ src x. failed_opt (default_bad src c.args.tokens.now c.args.allowance c.requires x (sym c.peek.ensures ∙ c.if-peek-ne-EQ.false) c.bump.ensures (failed_of c.in-Err.is (c.expr.ensures src)))
 
-pub returns-in-Node : goal.returns-in-Node
-returns-in-Node c = λ src x. took_opt (default_took src c.args.tokens.now c.args.allowance c.requires x (sym c.peek.ensures ∙ c.if-peek-ne-EQ.false) c.bump.ensures (took_of c.in-Node.is (c.expr.ensures src)))
+pub returns-in-Ok : goal.returns-in-Ok
+returns-in-Ok c = λ src x. took_opt (default_took src c.args.tokens.now c.args.allowance c.requires x (sym c.peek.ensures ∙ c.if-peek-ne-EQ.false) c.bump.ensures (took_of c.in-Ok.is (c.expr.ensures src)))

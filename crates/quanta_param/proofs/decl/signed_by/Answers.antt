@@ -14,13 +14,13 @@ pub expect-requires : goal.expect-requires
 expect-requires c = let z = signer_past blank c.args.tokens.now 0 c.requires fresh (sym c.peek.ensures ∙ c.if-peek-ne-SIGNED.false) c.bump.ensures in (z.inside, z.closed.few)
 
 pub expect_ident-requires : goal.expect_ident-requires
-expect_ident-requires c = by_ready blank c.args.tokens.now 0 c.requires fresh (sym c.peek.ensures ∙ c.if-peek-ne-SIGNED.false) c.bump.ensures c.expect.ensures c.in-Next.is
+expect_ident-requires c = by_ready blank c.args.tokens.now 0 c.requires fresh (sym c.peek.ensures ∙ c.if-peek-ne-SIGNED.false) c.bump.ensures c.expect.ensures c.in-Ok.is
 
-pub returns-in-Refused : goal.returns-in-Refused
-returns-in-Refused c = λ src a x. failed_opt (signer_byless src c.args.tokens.now a c.requires x (sym c.peek.ensures ∙ c.if-peek-ne-SIGNED.false) c.bump.ensures c.expect.ensures c.in-Refused.is)
+pub returns-in-Err : goal.returns-in-Err
+returns-in-Err c = λ src a x. failed_opt (signer_byless src c.args.tokens.now a c.requires x (sym c.peek.ensures ∙ c.if-peek-ne-SIGNED.false) c.bump.ensures c.expect.ensures c.in-Err.is)
 
-pub returns-in-Refused-expect_ident : goal.returns-in-Refused-expect_ident
-returns-in-Refused-expect_ident c = λ src a x. failed_opt (signer_nameless src c.args.tokens.now a c.requires x (sym c.peek.ensures ∙ c.if-peek-ne-SIGNED.false) c.bump.ensures c.expect.ensures c.in-Next.is c.expect_ident.ensures c.in-Refused-expect_ident.is)
+pub returns-in-Err-expect_ident : goal.returns-in-Err-expect_ident
+returns-in-Err-expect_ident c = λ src a x. failed_opt (signer_nameless src c.args.tokens.now a c.requires x (sym c.peek.ensures ∙ c.if-peek-ne-SIGNED.false) c.bump.ensures c.expect.ensures c.in-Ok.is c.expect_ident.ensures c.in-Err-expect_ident.is)
 
-pub returns-in-Node : goal.returns-in-Node
-returns-in-Node c = λ src a x. took_opt (signer_took src c.args.tokens.now a c.requires x (sym c.peek.ensures ∙ c.if-peek-ne-SIGNED.false) c.bump.ensures c.expect.ensures c.in-Next.is c.expect_ident.ensures c.in-Node.is)
+pub returns-in-Ok-expect_ident : goal.returns-in-Ok-expect_ident
+returns-in-Ok-expect_ident c = λ src a x. took_opt (signer_took src c.args.tokens.now a c.requires x (sym c.peek.ensures ∙ c.if-peek-ne-SIGNED.false) c.bump.ensures c.expect.ensures c.in-Ok.is c.expect_ident.ensures c.in-Ok-expect_ident.is)

@@ -14,17 +14,17 @@ peek-requires c = c.loop-span.invariant.ready.inside
 pub contract-requires : goal.contract-requires
 contract-requires c = (c.loop-span.invariant.ready, (sym c.peek.ensures ∙ c.loop-span-test.true))
 
-pub returns-in-Refused : goal.returns-in-Refused
-returns-in-Refused c = λ x. record { by = run_bad contracts_law (text c.args.edition c.args.src.now) c.args.allowance c.loop-span.invariant (sym c.peek.ensures ∙ c.loop-span-test.true) (failed_of c.in-Refused.is c.contract.ensures) x }
+pub returns-in-Err : goal.returns-in-Err
+returns-in-Err c = λ x. record { by = run_bad contracts_law (text c.args.edition c.args.src.now) c.args.allowance c.loop-span.invariant (sym c.peek.ensures ∙ c.loop-span-test.true) (failed_of c.in-Err.is c.contract.ensures) x }
 
 pub overflow_add-count : goal.overflow_add-count
 overflow_add-count c = omega (arith, c.loop-span.invariant.few, c.loop-span.invariant.ready.inside, c.loop-span.invariant.ready.fits, c.requires.closed.few)
 
 pub loop-span-smaller : goal.loop-span-smaller
-loop-span-smaller c = omega (arith, c.loop-span.invariant.ready.inside, run_less contracts_law (text c.args.edition c.args.src.now) c.args.allowance c.loop-span.invariant (sym c.peek.ensures ∙ c.loop-span-test.true) (took_of c.in-Node.is c.contract.ensures))
+loop-span-smaller c = omega (arith, c.loop-span.invariant.ready.inside, run_less contracts_law (text c.args.edition c.args.src.now) c.args.allowance c.loop-span.invariant (sym c.peek.ensures ∙ c.loop-span-test.true) (took_of c.in-Ok.is c.contract.ensures))
 
 pub loop-span-preserved : goal.loop-span-preserved
-loop-span-preserved c = run_on contracts_law (text c.args.edition c.args.src.now) c.args.allowance c.loop-span.invariant (sym c.peek.ensures ∙ c.loop-span-test.true) (took_of c.in-Node.is c.contract.ensures) refl c.contract.auto.tree
+loop-span-preserved c = run_on contracts_law (text c.args.edition c.args.src.now) c.args.allowance c.loop-span.invariant (sym c.peek.ensures ∙ c.loop-span-test.true) (took_of c.in-Ok.is c.contract.ensures) refl c.contract.auto.tree
 
 pub returns : goal.returns
 returns c = λ x. record { by = run_ends contracts_law (text c.args.edition c.args.src.now) c.args.allowance c.loop-span.invariant (λ z. c.loop-span-test.false (c.peek.ensures ∙ z)) refl refl refl refl x }

@@ -11,37 +11,37 @@ pub expect-requires : goal.expect-requires
 expect-requires c = let z = keyword_past (code Import) (λ u. u) c.requires.0 c.requires.1 c.bump.ensures in (z.inside, z.closed.few)
 
 pub import_names-requires : goal.import_names-requires
-import_names-requires c = open_ready blank c.args.tokens.now 0 c.requires.0 c.requires.1 c.bump.ensures c.args.tree.now c.expect.ensures c.in-Next.is
+import_names-requires c = open_ready blank c.args.tokens.now 0 c.requires.0 c.requires.1 c.bump.ensures c.args.tree.now c.expect.ensures c.in-Ok.is
 
-pub expect-requires-in-Nodes : goal.expect-requires-in-Nodes
-expect-requires-in-Nodes c = let z = names_ready blank c.args.tokens.now 0 c.requires.0 c.requires.1 c.bump.ensures c.args.tree.now c.expect.ensures c.in-Next.is c.import_names.ensures c.in-Nodes.is in (z.inside, z.closed.few)
+pub expect-requires-in-Ok-import_names : goal.expect-requires-in-Ok-import_names
+expect-requires-in-Ok-import_names c = let z = names_ready blank c.args.tokens.now 0 c.requires.0 c.requires.1 c.bump.ensures c.args.tree.now c.expect.ensures c.in-Ok.is c.import_names.ensures c.in-Ok-import_names.is in (z.inside, z.closed.few)
 
-pub expect-requires-in-Next-expect : goal.expect-requires-in-Next-expect
-expect-requires-in-Next-expect c = let z = shut_ready blank c.args.tokens.now 0 c.requires.0 c.requires.1 c.bump.ensures c.args.tree.now c.expect.ensures c.in-Next.is c.import_names.ensures c.in-Nodes.is c.expect-in-Nodes.ensures c.in-Next-expect.is in (z.inside, z.closed.few)
+pub expect-requires-in-Ok-expect : goal.expect-requires-in-Ok-expect
+expect-requires-in-Ok-expect c = let z = shut_ready blank c.args.tokens.now 0 c.requires.0 c.requires.1 c.bump.ensures c.args.tree.now c.expect.ensures c.in-Ok.is c.import_names.ensures c.in-Ok-import_names.is c.expect-in-Ok-import_names.ensures c.in-Ok-expect.is in (z.inside, z.closed.few)
 
 pub expect_str-requires : goal.expect_str-requires
-expect_str-requires c = from_ready blank c.args.tokens.now 0 c.requires.0 c.requires.1 c.bump.ensures c.args.tree.now c.expect.ensures c.in-Next.is c.import_names.ensures c.in-Nodes.is c.expect-in-Nodes.ensures c.in-Next-expect.is c.expect-in-Next-expect.ensures c.in-Next-expect-2.is
+expect_str-requires c = from_ready blank c.args.tokens.now 0 c.requires.0 c.requires.1 c.bump.ensures c.args.tree.now c.expect.ensures c.in-Ok.is c.import_names.ensures c.in-Ok-import_names.is c.expect-in-Ok-import_names.ensures c.in-Ok-expect.is c.expect-in-Ok-expect.ensures c.in-Ok-expect-2.is
 
 pub overflow_add-names : goal.overflow_add-names
-overflow_add-names c = omega (arith, names_few blank c.args.tokens.now 0 c.requires.0 c.requires.1 c.bump.ensures c.args.tree.now c.expect.ensures c.in-Next.is c.import_names.ensures c.in-Nodes.is)
+overflow_add-names c = omega (arith, names_few blank c.args.tokens.now 0 c.requires.0 c.requires.1 c.bump.ensures c.args.tree.now c.expect.ensures c.in-Ok.is c.import_names.ensures c.in-Ok-import_names.is)
 
 pub close_import-requires : goal.close_import-requires
-close_import-requires c = (path_ready blank c.args.tokens.now 0 c.requires.0 c.requires.1 c.bump.ensures c.args.tree.now c.expect.ensures c.in-Next.is c.import_names.ensures c.in-Nodes.is c.expect-in-Nodes.ensures c.in-Next-expect.is c.expect-in-Next-expect.ensures c.in-Next-expect-2.is c.expect_str.ensures c.in-Node.is, c.requires.0.inside)
+close_import-requires c = (path_ready blank c.args.tokens.now 0 c.requires.0 c.requires.1 c.bump.ensures c.args.tree.now c.expect.ensures c.in-Ok.is c.import_names.ensures c.in-Ok-import_names.is c.expect-in-Ok-import_names.ensures c.in-Ok-expect.is c.expect-in-Ok-expect.ensures c.in-Ok-expect-2.is c.expect_str.ensures c.in-Ok-expect_str.is, c.requires.0.inside)
 
-pub returns-in-Refused : goal.returns-in-Refused
-returns-in-Refused c = λ src a. failed (import_unopened src c.args.tokens.now a c.requires.0 c.requires.1 c.bump.ensures c.args.tree.now c.expect.ensures c.in-Refused.is)
+pub returns-in-Err : goal.returns-in-Err
+returns-in-Err c = λ src a. failed (import_unopened src c.args.tokens.now a c.requires.0 c.requires.1 c.bump.ensures c.args.tree.now c.expect.ensures c.in-Err.is)
 
-pub returns-in-Refused-import_names : goal.returns-in-Refused-import_names
-returns-in-Refused-import_names c = λ src a. failed (import_nameless src c.args.tokens.now a c.requires.0 c.requires.1 c.bump.ensures c.args.tree.now c.expect.ensures c.in-Next.is c.import_names.ensures c.in-Refused-import_names.is)
+pub returns-in-Err-import_names : goal.returns-in-Err-import_names
+returns-in-Err-import_names c = λ src a. failed (import_nameless src c.args.tokens.now a c.requires.0 c.requires.1 c.bump.ensures c.args.tree.now c.expect.ensures c.in-Ok.is c.import_names.ensures c.in-Err-import_names.is)
 
-pub returns-in-Refused-expect : goal.returns-in-Refused-expect
-returns-in-Refused-expect c = λ src a. failed (import_unclosed src c.args.tokens.now a c.requires.0 c.requires.1 c.bump.ensures c.args.tree.now c.expect.ensures c.in-Next.is c.import_names.ensures c.in-Nodes.is c.expect-in-Nodes.ensures c.in-Refused-expect.is)
+pub returns-in-Err-expect : goal.returns-in-Err-expect
+returns-in-Err-expect c = λ src a. failed (import_unclosed src c.args.tokens.now a c.requires.0 c.requires.1 c.bump.ensures c.args.tree.now c.expect.ensures c.in-Ok.is c.import_names.ensures c.in-Ok-import_names.is c.expect-in-Ok-import_names.ensures c.in-Err-expect.is)
 
-pub returns-in-Refused-expect-2 : goal.returns-in-Refused-expect-2
-returns-in-Refused-expect-2 c = λ src a. failed (import_fromless src c.args.tokens.now a c.requires.0 c.requires.1 c.bump.ensures c.args.tree.now c.expect.ensures c.in-Next.is c.import_names.ensures c.in-Nodes.is c.expect-in-Nodes.ensures c.in-Next-expect.is c.expect-in-Next-expect.ensures c.in-Refused-expect-2.is)
+pub returns-in-Err-expect-2 : goal.returns-in-Err-expect-2
+returns-in-Err-expect-2 c = λ src a. failed (import_fromless src c.args.tokens.now a c.requires.0 c.requires.1 c.bump.ensures c.args.tree.now c.expect.ensures c.in-Ok.is c.import_names.ensures c.in-Ok-import_names.is c.expect-in-Ok-import_names.ensures c.in-Ok-expect.is c.expect-in-Ok-expect.ensures c.in-Err-expect-2.is)
 
-pub returns-in-Refused-expect_str : goal.returns-in-Refused-expect_str
-returns-in-Refused-expect_str c = λ src a. failed (import_pathless src c.args.tokens.now a c.requires.0 c.requires.1 c.bump.ensures c.args.tree.now c.expect.ensures c.in-Next.is c.import_names.ensures c.in-Nodes.is c.expect-in-Nodes.ensures c.in-Next-expect.is c.expect-in-Next-expect.ensures c.in-Next-expect-2.is c.expect_str.ensures c.in-Refused-expect_str.is)
+pub returns-in-Err-expect_str : goal.returns-in-Err-expect_str
+returns-in-Err-expect_str c = λ src a. failed (import_pathless src c.args.tokens.now a c.requires.0 c.requires.1 c.bump.ensures c.args.tree.now c.expect.ensures c.in-Ok.is c.import_names.ensures c.in-Ok-import_names.is c.expect-in-Ok-import_names.ensures c.in-Ok-expect.is c.expect-in-Ok-expect.ensures c.in-Ok-expect-2.is c.expect_str.ensures c.in-Err-expect_str.is)
 
-pub returns-in-Node : goal.returns-in-Node
-returns-in-Node c = λ src a. import_met src c.args.tokens.now a c.requires.0 c.requires.1 c.bump.ensures c.args.tree.now c.expect.ensures c.in-Next.is c.import_names.ensures c.in-Nodes.is c.expect-in-Nodes.ensures c.in-Next-expect.is c.expect-in-Next-expect.ensures c.in-Next-expect-2.is c.expect_str.ensures c.in-Node.is c.close_import.ensures
+pub returns-in-Ok-expect_str : goal.returns-in-Ok-expect_str
+returns-in-Ok-expect_str c = λ src a. import_met src c.args.tokens.now a c.requires.0 c.requires.1 c.bump.ensures c.args.tree.now c.expect.ensures c.in-Ok.is c.import_names.ensures c.in-Ok-import_names.is c.expect-in-Ok-import_names.ensures c.in-Ok-expect.is c.expect-in-Ok-expect.ensures c.in-Ok-expect-2.is c.expect_str.ensures c.in-Ok-expect_str.is c.close_import.ensures

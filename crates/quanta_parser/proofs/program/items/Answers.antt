@@ -18,17 +18,17 @@ peek-requires-in-loop-edition c = c.loop-edition.invariant.ready.inside
 pub contract_item-requires : goal.contract_item-requires
 contract_item-requires c = c.loop-edition.invariant.ready
 
-pub returns-in-Refused : goal.returns-in-Refused
-returns-in-Refused c = failed_all (more_bad items_run c.args.allowance c.requires c.loop-edition.invariant c.peek.ensures c.loop-edition-test.true c.peek-in-loop-edition.ensures c.if-peek-ne-EOF.true (failed_of c.in-Refused.is c.contract_item.ensures))
+pub returns-in-Err : goal.returns-in-Err
+returns-in-Err c = failed_all (more_bad items_run c.args.allowance c.requires c.loop-edition.invariant c.peek.ensures c.loop-edition-test.true c.peek-in-loop-edition.ensures c.if-peek-ne-EOF.true (failed_of c.in-Err.is c.contract_item.ensures))
 
 pub overflow_add-count : goal.overflow_add-count
 overflow_add-count c = omega (arith, c.loop-edition.invariant.few, c.loop-edition.invariant.ready.inside, c.loop-edition.invariant.ready.fits, c.requires.closed.few)
 
 pub loop-edition-smaller : goal.loop-edition-smaller
-loop-edition-smaller c = omega (arith, c.loop-edition.invariant.ready.inside, more_less items_run c.args.allowance c.requires c.loop-edition.invariant c.peek.ensures c.loop-edition-test.true c.peek-in-loop-edition.ensures c.if-peek-ne-EOF.true (took_of c.in-Node.is c.contract_item.ensures))
+loop-edition-smaller c = omega (arith, c.loop-edition.invariant.ready.inside, more_less items_run c.args.allowance c.requires c.loop-edition.invariant c.peek.ensures c.loop-edition-test.true c.peek-in-loop-edition.ensures c.if-peek-ne-EOF.true (took_of c.in-Ok.is c.contract_item.ensures))
 
 pub loop-edition-preserved : goal.loop-edition-preserved
-loop-edition-preserved c = more_on items_run c.args.allowance c.requires c.loop-edition.invariant c.peek.ensures c.loop-edition-test.true c.peek-in-loop-edition.ensures c.if-peek-ne-EOF.true (took_of c.in-Node.is c.contract_item.ensures) refl c.contract_item.auto.tree
+loop-edition-preserved c = more_on items_run c.args.allowance c.requires c.loop-edition.invariant c.peek.ensures c.loop-edition-test.true c.peek-in-loop-edition.ensures c.if-peek-ne-EOF.true (took_of c.in-Ok.is c.contract_item.ensures) refl c.contract_item.auto.tree
 
 pub returns-else-peek-ne-EOF : goal.returns-else-peek-ne-EOF
 returns-else-peek-ne-EOF c = took_all (at_eof items_run c.args.allowance c.requires c.loop-edition.invariant c.peek-in-loop-edition.ensures c.if-peek-ne-EOF.false refl refl refl)

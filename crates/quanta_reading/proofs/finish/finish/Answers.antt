@@ -4,10 +4,10 @@ use Rattle.quanta_reading.proofs.Finishing.{refused, no_room, room}
 use Rattle.quanta_reading.proofs.finish.finish.Goals as goal
 
 pub returns-then-tree-records : goal.returns-then-tree-records
-returns-then-tree-records c = no_room c.args.tree.now c.args.tokens c.args.parsed c.in-Node.is c.if-tree-records.true c.clear-then-tree-records.ensures
+returns-then-tree-records c = no_room c.args.tree.now c.args.tokens c.args.parsed c.in-Ok.is c.if-tree-records.true c.clear-then-tree-records.ensures
 
-pub returns-in-Refused : goal.returns-in-Refused
-returns-in-Refused c = refused c.args.tree.now c.args.tokens c.args.parsed c.in-Refused.is c.clear.ensures
+pub returns-in-Err : goal.returns-in-Err
+returns-in-Err c = refused c.args.tree.now c.args.tokens c.args.parsed c.in-Err.is c.clear.ensures
 
 pub returns-else-tree-records : goal.returns-else-tree-records
-returns-else-tree-records c = room c.args.tree.now c.args.tokens c.args.parsed c.in-Node.is c.if-tree-records.false c.clear-in-Node.ensures
+returns-else-tree-records c = room c.args.tree.now c.args.tokens c.args.parsed c.in-Ok.is c.if-tree-records.false c.clear-in-Ok.ensures

@@ -24,15 +24,15 @@ past_name : {ws : List ℕ} {at no k next : ℕ} → Ready ws at no → k ≡ ki
 past_name g e z n = ready_past g (past_in type_name (λ u. u) g.closed g.inside (is_type_name e z)) n
 
 -- AN ARGUMENT
-pub generic_arg-returns-in-Refused : goal.generic_arg-returns-in-Refused
-generic_arg-returns-in-Refused t c =
+pub generic_arg-returns-in-Err : goal.generic_arg-returns-in-Err
+generic_arg-returns-in-Err t c =
     type_failed (arg_deep (text c.args.edition c.args.src.now) c.args.tokens.now c.args.at.0 c.args.allowance c.requires.inside
-    (λ z. c.if-peek-eq-INT.false (c.peek.ensures ∙ z)) (spent_of c.in-Refused.is c.enter.ensures))
+    (λ z. c.if-peek-eq-INT.false (c.peek.ensures ∙ z)) (spent_of c.in-Err.is c.enter.ensures))
 
-pub generic_arg-returns-in-Left : goal.generic_arg-returns-in-Left
-generic_arg-returns-in-Left t c =
+pub generic_arg-returns-in-Ok : goal.generic_arg-returns-in-Ok
+generic_arg-returns-in-Ok t c =
     arg_in (text c.args.edition c.args.src.now) c.args.tokens.now c.args.at.0 c.args.allowance c.requires.inside
-    (λ z. c.if-peek-eq-INT.false (c.peek.ensures ∙ z)) (left_of c.in-Left.is c.enter.ensures) c.ty.ensures
+    (λ z. c.if-peek-eq-INT.false (c.peek.ensures ∙ z)) (left_of c.in-Ok.is c.enter.ensures) c.ty.ensures
 
 -- THE ARGUMENTS
 pub generic_args-loop-e-init : goal.generic_args-loop-e-init

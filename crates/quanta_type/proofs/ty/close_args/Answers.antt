@@ -10,12 +10,12 @@ returns-then-is_pair c =
     let pair = yes_told c.is_pair.ensures c.if-is_pair.true in
     record { by = (pair, up_to_as c.front_span-end.ensures refl c.put_type-then-is_pair.ensures) }
 
-pub returns-in-Next : goal.returns-in-Next
-returns-in-Next c =
-    let z = next_of c.in-Next.is c.expect.ensures in
+pub returns-in-Ok : goal.returns-in-Ok
+returns-in-Ok c =
+    let z = next_of c.in-Ok.is c.expect.ensures in
     record { by = (z.0, up_to_as c.peek_span-end.ensures z.1 c.put_type.ensures) }
 
 pub returns-else-is_pair : goal.returns-else-is_pair
 returns-else-is_pair c =
-    let z = lacks_of c.in-Refused.is c.expect.ensures in
+    let z = lacks_of c.in-Err.is c.expect.ensures in
     record { by = (z.0, no_told c.is_pair.ensures c.if-is_pair.false, z.1) }
