@@ -2,7 +2,8 @@
 -- behind a comma. Stated for elements s and the rest l of their list.
 -- Assumes nothing.
 use Rattle.std.specs.Prelude.{Err, Ok, Result}
-use mathlib.Core.Path.{◌≡◌, refl, sym, ◌∙◌}
+use mathlib.Core.Path.{◌≡◌, refl, sym, subst, ◌∙◌}
+use Rattle.quanta_cursor.specs.declared.parser.Nodes.{Nodes}
 use mathlib.Core.List.{List}
 use Prim.Native.Nat.{ℕ, ◌+◌, ◌<◌, ◌≤◌, zero-le}
 use native.Mathlib.Omega.{arith}
@@ -81,13 +82,15 @@ module _ {s l : Symbol} {src : Text} {ws : List ℕ} {a i : ℕ} {t : List ℕ} 
     (v : Awaits s l src ws a i t n p q c tree) {r : Result (Typed Node) Refusal} {tree' : List ℕ}
     (k : Types src s ws p q a tree r tree') where
   -- or it is refused; or the first closer of a `>>` closed it
-  pub no_element : {u : Refusal} → r ≡ Err u → {t' : List ℕ} (x : Acc)
-      → ListsTypes (whole s l a (from src ws i) x) x src ws t n (Err u) t'
-  no_element z x = record { by = v.bad x (untyped_of z k) }
+  pub no_element : {u : Refusal} {y : Result (Typed Nodes) Refusal} → r ≡ Err u → y ≡ Err u → {t' : List ℕ} (x : Acc)
+      → ListsTypes (whole s l a (from src ws i) x) x src ws t n y t'
+  no_element z e {t'} x =
+      subst (λ (y : Result (Typed Nodes) Refusal). ListsTypes (whole s l a (from src ws i) x) x src ws t n y t') (sym e)
+      (record { by = v.bad x (untyped_of z k) })
 
   pub half_element : {m : Node} → r ≡ Ok (Half m) → (x : Acc)
       → ListsTypes (whole s l a (from src ws i) x) x src ws t n
-      (typeds.Half (record { at = m.at; no = m.no; count = c + 1 })) tree'
+      (Ok (Half (record { at = m.at; no = m.no; count = c + 1 }))) tree'
   half_element z x = record { by = v.half x (half_of z k) }
 
   -- so many elements fit a word
@@ -136,7 +139,7 @@ module _ {s l : Symbol} (e : Element s l) where
     -- .. is no comma: the list ends
     pub list_over : (k ≡ code Comma → ⊥) → (x : Acc)
         → ListsTypes (whole s l e.a (from e.src e.ws e.i) x) x e.src e.ws e.t e.n
-        (typeds.Nodes (record { at = e.m.at; no = e.m.no; count = e.c + 1 })) e.tree'
+        (Ok (Whole (record { at = e.m.at; no = e.m.no; count = e.c + 1 }))) e.tree'
     list_over z x =
         record {
           by = record {

@@ -40,10 +40,9 @@ pub fn ty(
             if peek(tokens, next) != token::LT {
                 return Ok(Typed::Whole(leaf(tokens, tree, at, no, node::TYPE)));
             }
-            match generic_args(edition, src, tokens, tree, bump(next), no, allowance) {
-                Err(e) => Err(e),
-                Ok(Typed::Whole(args)) => close_args(edition, tokens, tree, at, args),
-                Ok(Typed::Half(args)) => Ok(Typed::Whole(close_half(tokens, tree, at, args))),
+            match generic_args(edition, src, tokens, tree, bump(next), no, allowance)? {
+                Typed::Whole(args) => close_args(edition, tokens, tree, at, args),
+                Typed::Half(args) => Ok(Typed::Whole(close_half(tokens, tree, at, args))),
             }
         }
         _ => Err(err(tokens, at, refusal::EXPECTED_TYPE, 0)),
@@ -67,27 +66,23 @@ fn generic_args(
     let mut no = no;
     let mut count: u32 = 0;
     loop {
-        match generic_arg(edition, src, tokens, tree, at, no, allowance) {
-            Err(e) => return Err(e),
-            Ok(Typed::Half(arg)) => {
-                let next = arg.at;
-                no = arg.no;
-                count += 1;
+        match generic_arg(edition, src, tokens, tree, at, no, allowance)? {
+            Typed::Half(arg) => {
                 return Ok(Typed::Half(Nodes {
-                    at: next,
-                    no: no,
-                    count: count,
+                    at: arg.at,
+                    no: arg.no,
+                    count: count + 1,
                 }));
             }
-            Ok(Typed::Whole(arg)) => {
+            Typed::Whole(arg) => {
                 let next = arg.at;
                 no = arg.no;
                 count += 1;
                 if peek(tokens, next) != token::COMMA {
                     return Ok(Typed::Whole(Nodes {
                         at: next,
-                        no: no,
-                        count: count,
+                        no,
+                        count,
                     }));
                 }
                 at = bump(next);
@@ -112,10 +107,8 @@ fn generic_arg(
     if peek(tokens, at) == token::INT {
         return int_arg(src, tokens, tree, at, no);
     }
-    match enter(tokens, at, allowance) {
-        Err(e) => Err(e),
-        Ok(less) => ty(edition, src, tokens, tree, at, no, less),
-    }
+    let less = enter(tokens, at, allowance)?;
+    ty(edition, src, tokens, tree, at, no, less)
 }
 
 // An argument that begins with the integer at `at`: that alone, or m of n. Neither counts in the nesting.
@@ -134,33 +127,21 @@ fn int_arg(
     if !is_of(src, tokens, of) {
         return Ok(Typed::Whole(m));
     }
-    let no = m.no;
-    match expect_int(tokens, tree, bump(of), no) {
-        Err(e) => Err(e),
-        Ok(n) => {
-            let at = n.at;
-            let no = n.no;
-            let start = m.span;
-            let end = n.span;
-            let span = start.join(end);
-            Ok(Typed::Whole(Node {
-                at: at,
-                no: put(
-                    tree,
-                    no,
-                    Record {
-                        kind: node::M_OF_N,
-                        flag: 0,
-                        own: of,
-                        span,
-                        children: 2,
-                    },
-                ),
-                span: span,
-                kind: node::M_OF_N,
-            }))
-        }
-    }
+    let n = expect_int(tokens, tree, bump(of), m.no)?;
+    let span = m.span.join(n.span);
+    let rec = Record {
+        kind: node::M_OF_N,
+        flag: 0,
+        own: of,
+        span,
+        children: 2,
+    };
+    Ok(Typed::Whole(Node {
+        at: n.at,
+        no: put(tree, n.no, rec),
+        span,
+        kind: node::M_OF_N,
+    }))
 }
 
 // What closes the arguments of the type whose name is the token at `name`: `>`, or the first closer of a `>>`.
@@ -212,23 +193,19 @@ fn put_type(
     requires { Ready tokens.now args.at.0 args.no.0 × (name.0 < size tokens.now) }
     ensures { TypeUpTo tokens.now tree.old args.no.0 name.0 args.count end next.0 result tree.new }
 {
-    let no = args.no;
     let first = peek_span(tokens, name);
     let span = first.join(end);
+    let rec = Record {
+        kind: node::TYPE,
+        flag: 0,
+        own: name,
+        span,
+        children: args.count,
+    };
     Node {
         at: next,
-        no: put(
-            tree,
-            no,
-            Record {
-                kind: node::TYPE,
-                flag: 0,
-                own: name,
-                span,
-                children: args.count,
-            },
-        ),
-        span: span,
+        no: put(tree, args.no, rec),
+        span,
         kind: node::TYPE,
     }
 }

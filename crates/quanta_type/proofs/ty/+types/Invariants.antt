@@ -18,10 +18,10 @@ abbrev pub decreases-ty : goal.decreases-ty
 decreases-ty l = l.allowance * 4 + 3
 
 -- One call reads each argument, and at the head of the loop one is to come.
-abbrev pub invariant-generic_args-loop-e : goal.invariant-generic_args-loop-e
-invariant-generic_args-loop-e l =
+abbrev pub invariant-generic_args-loop-arg : goal.invariant-generic_args-loop-arg
+invariant-generic_args-loop-arg l =
     Awaits type_arg more_type_args (text l.edition l.src) l.tokens l.allowance l.initial.at.0 l.initial.tree
     l.initial.no.0 l.at.0 l.no.0 l.count l.tree
 
-abbrev pub decreases-generic_args-loop-e : goal.decreases-generic_args-loop-e
-decreases-generic_args-loop-e l = size l.tokens - l.at.0
+abbrev pub decreases-generic_args-loop-arg : goal.decreases-generic_args-loop-arg
+decreases-generic_args-loop-arg l = size l.tokens - l.at.0

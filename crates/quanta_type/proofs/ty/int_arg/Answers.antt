@@ -3,7 +3,7 @@
 use native.Mathlib.Omega.{arith}
 use Rattle.quanta_token.specs.declared.edition.Edition.TheVariants.{One}
 use Rattle.quanta_grammar.specs.Refine.{text}
-use Rattle.quanta_type.proofs.Types.{type_took, type_failed, arg_past, arg_alone, arg_ready, arg_bad, arg_few, arg_took}
+use Rattle.quanta_type.proofs.Types.{type_took, type_fails, arg_past, arg_alone, arg_ready, arg_bad, arg_few, arg_took}
 use Rattle.quanta_type.proofs.ty.int_arg.Goals as goal
 
 pub is_of-requires : goal.is_of-requires
@@ -19,10 +19,10 @@ pub expect_int-requires : goal.expect_int-requires
 expect_int-requires c = arg_ready (text One c.args.src.now) c.args.tokens.now c.requires.0 c.requires.1 c.leaf-m.ensures.0 (c.is_of.ensures One) c.if-not-is_of.false c.bump.ensures
 
 pub put-requires : goal.put-requires
-put-requires c = (arg_few (text One c.args.src.now) c.args.tokens.now c.requires.0 c.requires.1 c.leaf-m.ensures.0 (c.is_of.ensures One) c.if-not-is_of.false c.bump.ensures c.expect_int.ensures c.in-Ok.is, omega (arith, arg_past (text One c.args.src.now) c.args.tokens.now c.requires.0 c.requires.1 c.leaf-m.ensures.0, c.requires.0.closed.few))
+put-requires c = (arg_few (text One c.args.src.now) c.args.tokens.now c.requires.0 c.requires.1 c.leaf-m.ensures.0 (c.is_of.ensures One) c.if-not-is_of.false c.bump.ensures c.expect_int.ensures c.in_ok-n.was, omega (arith, arg_past (text One c.args.src.now) c.args.tokens.now c.requires.0 c.requires.1 c.leaf-m.ensures.0, c.requires.0.closed.few))
 
-pub returns-in-Err : goal.returns-in-Err
-returns-in-Err c = λ e a. type_failed (arg_bad (text e c.args.src.now) c.args.tokens.now c.requires.0 c.requires.1 c.leaf-m.ensures.0 (c.is_of.ensures e) c.if-not-is_of.false c.bump.ensures c.expect_int.ensures a c.in-Err.is)
+pub returns-in_err-n : goal.returns-in_err-n
+returns-in_err-n c = λ e a. type_fails c.from_residual.ensures.1 (arg_bad (text e c.args.src.now) c.args.tokens.now c.requires.0 c.requires.1 c.leaf-m.ensures.0 (c.is_of.ensures e) c.if-not-is_of.false c.bump.ensures c.expect_int.ensures a c.in_err-n.was)
 
-pub returns-in-Ok : goal.returns-in-Ok
-returns-in-Ok c = λ e a. type_took (arg_took (text e c.args.src.now) c.args.tokens.now c.requires.0 c.requires.1 c.leaf-m.ensures.0 (c.is_of.ensures e) c.if-not-is_of.false c.bump.ensures c.expect_int.ensures c.in-Ok.is a c.leaf-m.ensures.1 c.join-span.ensures c.put.ensures.0 c.put.ensures.1)
+pub returns : goal.returns
+returns c = λ e a. type_took (arg_took (text e c.args.src.now) c.args.tokens.now c.requires.0 c.requires.1 c.leaf-m.ensures.0 (c.is_of.ensures e) c.if-not-is_of.false c.bump.ensures c.expect_int.ensures c.in_ok-n.was a c.leaf-m.ensures.1 c.join-span.ensures c.put.ensures.0 c.put.ensures.1)
