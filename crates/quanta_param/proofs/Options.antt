@@ -1,6 +1,6 @@
 -- Of a production under way: an own token that is expected, parts that may be missing, and a record that no token closes.
 -- Assumes nothing.
-use Rattle.std.specs.Prelude.{Err, None, Ok, Option, Result, Some}
+use Rattle.std.specs.Prelude.{Err, IsErrAnd, None, Ok, Option, Result, Some}
 use mathlib.Core.Path.{◌≡◌, refl, ap, sym, subst, ◌∙◌}
 use mathlib.Core.List.{List, [], ◌∷◌}
 use mathlib.Core.Logic.{⊎_elim}
@@ -27,6 +27,7 @@ use Rattle.quanta_cursor.specs.Answers.{single, Failed, Took}
 use Rattle.quanta_cursor.specs.Cursor.{err_at, Expects}
 use Rattle.quanta_cursor.proofs.Sets.{coarse, fine_in, is_one, not_one}
 use Rattle.quanta_cursor.proofs.Places.{past_as, laid_glue, ready_past}
+use Rattle.quanta_cursor.proofs.Exits.{handed}
 use Rattle.quanta_cursor.proofs.Meeting.{next_of, lacks_of}
 use Rattle.quanta_cursor.proofs.Doing.{Doing, eat, lack, fold_in, ends}
 use Rattle.quanta_cursor.proofs.Under.{leaf_of_lem, Under, leaves, worded, folded, unfolded}
@@ -83,7 +84,7 @@ module _ {s : Symbol} {k f : ℕ} (law : Keyword s k f) {ws : List ℕ} {i n : �
 
 -- A NODE THAT MAY BE MISSING: an answer that is made, and one that is taken apart
 module _ {o : Outcome} {x : Acc} {y : Reach} {f : ℕ} {src : Text} {ws : List ℕ} {i : ℕ} {t : List ℕ} {n : ℕ} {t' : List ℕ} where
-  pub missing : o ≡ left x (from src ws i) → t' ≡ t → MeetsOpt o x y f src ws i t n Ok None t'
+  pub missing : o ≡ left x (from src ws i) → t' ≡ t → MeetsOpt o x y f src ws i t n (Ok None) t'
   missing e w = record { by = (e, w) }
 
   pub took_opt : {m : Node} → TookOpt o x y f src ws t n m t' → MeetsOpt o x y f src ws i t n (Ok (Some m)) t'
@@ -91,6 +92,10 @@ module _ {o : Outcome} {x : Acc} {y : Reach} {f : ℕ} {src : Text} {ws : List �
 
   pub failed_opt : {e : Refusal} → Failed o e → MeetsOpt o x y f src ws i t n (Err e) t'
   failed_opt k = record { by = k }
+
+  pub fails_opt : {r : Result (Option Node) Refusal} {e : Refusal} → IsErrAnd r (λ y. y ≡ e) → Failed o e
+      → MeetsOpt o x y f src ws i t n r t'
+  fails_opt h k = subst (λ (r : Result (Option Node) Refusal). MeetsOpt o x y f src ws i t n r t') (sym (handed h)) (failed_opt k)
 
   pub missing_of : {r : Result (Option Node) Refusal} → r ≡ Ok None → MeetsOpt o x y f src ws i t n r t' → (o ≡ left x (from src ws i)) × (t' ≡ t)
   missing_of z m = subst (λ (r : Result (Option Node) Refusal). AnswersOpt o x y f src ws i t n r t') z m.by

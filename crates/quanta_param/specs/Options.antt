@@ -33,7 +33,7 @@ pub record TookOpt (o : Outcome) (x : Acc) (y : Reach) (f : ℕ) (src : Text) (w
 
 -- where it is missing, nothing is left and nothing is written
 abbrev pub AnswersOpt : Outcome → Acc → Reach → ℕ → Text → List ℕ → ℕ → List ℕ → ℕ → Result (Option Node) Refusal → List ℕ → Type 0
-AnswersOpt o x y f src ws i t n Ok None t' = (o ≡ left x (from src ws i)) × (t' ≡ t)
+AnswersOpt o x y f src ws i t n (Ok None) t' = (o ≡ left x (from src ws i)) × (t' ≡ t)
 AnswersOpt o x y f src ws i t n (Ok (Some r)) t' = TookOpt o x y f src ws t n r t'
 AnswersOpt o x y f src ws i t n (Err e) t' = Failed o e
 

@@ -2,30 +2,52 @@
 -- Assumes nothing.
 use Rattle.quanta_grammar.specs.Refine.{text}
 use mathlib.Core.Path.{refl}
-use Rattle.quanta_cursor.proofs.Meeting.{took_all, failed_all}
+use Rattle.quanta_cursor.proofs.Meeting.{took_all, failed_all, fails_all}
+use Rattle.quanta_cursor.proofs.Exits.{held}
 use Rattle.quanta_param.proofs.Params.{list_unopened, open_ready, list_refused, half_place, list_halved, full_ready, list_unclosed, list_closed}
 use Rattle.quanta_param.proofs.decl.param_list.Goals as goal
 
 pub params-requires : goal.params-requires
-params-requires c = open_ready (text c.args.edition c.args.src.now) c.args.tokens.now c.args.allowance c.requires c.args.tree.now c.expect.ensures c.in-Next.is
+params-requires c =
+    open_ready (text c.args.edition c.args.src.now) c.args.tokens.now c.args.allowance c.requires c.args.tree.now
+    c.expect.ensures c.in_ok-inside.was
 
 pub err_half-requires : goal.err_half-requires
-err_half-requires c = (half_place (text c.args.edition c.args.src.now) c.args.tokens.now c.args.allowance c.requires c.args.tree.now c.expect.ensures c.in-Next.is c.params.ensures c.in-Half.is).inside
+err_half-requires c =
+    (half_place (text c.args.edition c.args.src.now) c.args.tokens.now c.args.allowance c.requires c.args.tree.now
+    c.expect.ensures c.in_ok-inside.was c.params.ensures (held c.in_ok-params.was c.in-Half.is)).inside
 
-pub expect-requires-in-Nodes : goal.expect-requires-in-Nodes
-expect-requires-in-Nodes c = let z = full_ready (text c.args.edition c.args.src.now) c.args.tokens.now c.args.allowance c.requires c.args.tree.now c.expect.ensures c.in-Next.is c.params.ensures c.in-Nodes.is in (z.inside, z.closed.few)
+pub expect-requires-2 : goal.expect-requires-2
+expect-requires-2 c =
+    let z = full_ready (text c.args.edition c.args.src.now) c.args.tokens.now c.args.allowance c.requires
+    c.args.tree.now c.expect.ensures c.in_ok-inside.was c.params.ensures (held c.in_ok-params.was c.in-Whole.is) in
+    (z.inside, z.closed.few)
 
-pub returns-in-Refused : goal.returns-in-Refused
-returns-in-Refused c = failed_all (list_unopened (text c.args.edition c.args.src.now) c.args.tokens.now c.args.allowance c.requires c.args.tree.now c.expect.ensures c.in-Refused.is)
+pub returns-in_err-inside : goal.returns-in_err-inside
+returns-in_err-inside c =
+    fails_all c.from_residual.ensures.1 (list_unopened (text c.args.edition c.args.src.now) c.args.tokens.now
+    c.args.allowance c.requires c.args.tree.now c.expect.ensures c.in_err-inside.was)
 
-pub returns-in-Refused-params : goal.returns-in-Refused-params
-returns-in-Refused-params c = failed_all (list_refused (text c.args.edition c.args.src.now) c.args.tokens.now c.args.allowance c.requires c.args.tree.now c.expect.ensures c.in-Next.is c.params.ensures c.in-Refused-params.is)
+pub returns-in_err-params : goal.returns-in_err-params
+returns-in_err-params c =
+    fails_all c.from_residual-in_err-params.ensures.1 (list_refused (text c.args.edition c.args.src.now)
+    c.args.tokens.now c.args.allowance c.requires c.args.tree.now c.expect.ensures c.in_ok-inside.was
+    c.params.ensures c.in_err-params.was)
 
 pub returns-in-Half : goal.returns-in-Half
-returns-in-Half c = failed_all (list_halved (text c.args.edition c.args.src.now) c.args.tokens.now c.args.allowance c.requires c.args.tree.now c.expect.ensures c.in-Next.is c.params.ensures c.in-Half.is c.err_half.ensures)
+returns-in-Half c =
+    failed_all (list_halved (text c.args.edition c.args.src.now) c.args.tokens.now c.args.allowance c.requires
+    c.args.tree.now c.expect.ensures c.in_ok-inside.was c.params.ensures (held c.in_ok-params.was c.in-Half.is)
+    c.err_half.ensures)
 
-pub returns-in-Refused-expect : goal.returns-in-Refused-expect
-returns-in-Refused-expect c = failed_all (list_unclosed (text c.args.edition c.args.src.now) c.args.tokens.now c.args.allowance c.requires c.args.tree.now c.expect.ensures c.in-Next.is c.params.ensures c.in-Nodes.is c.expect-in-Nodes.ensures c.in-Refused-expect.is)
+pub returns-in_err-next : goal.returns-in_err-next
+returns-in_err-next c =
+    fails_all c.from_residual-in_err-next.ensures.1 (list_unclosed (text c.args.edition c.args.src.now)
+    c.args.tokens.now c.args.allowance c.requires c.args.tree.now c.expect.ensures c.in_ok-inside.was
+    c.params.ensures (held c.in_ok-params.was c.in-Whole.is) c.expect-2.ensures c.in_err-next.was)
 
-pub returns-in-Next-expect : goal.returns-in-Next-expect
-returns-in-Next-expect c = took_all (list_closed (text c.args.edition c.args.src.now) c.args.tokens.now c.args.allowance c.requires c.args.tree.now c.expect.ensures c.in-Next.is c.params.ensures c.in-Nodes.is c.expect-in-Nodes.ensures c.in-Next-expect.is refl refl refl)
+pub returns : goal.returns
+returns c =
+    took_all (list_closed (text c.args.edition c.args.src.now) c.args.tokens.now c.args.allowance c.requires
+    c.args.tree.now c.expect.ensures c.in_ok-inside.was c.params.ensures (held c.in_ok-params.was c.in-Whole.is)
+    c.expect-2.ensures c.in_ok-next.was refl refl refl)

@@ -2,25 +2,40 @@
 -- Assumes nothing.
 use mathlib.Core.Path.{refl, sym, ◌∙◌}
 use Rattle.grammar.specs.Records.{fresh}
-use Rattle.quanta_param.proofs.Options.{missing, took_opt, failed_opt}
+use Rattle.quanta_param.proofs.Options.{missing, took_opt, fails_opt}
 use Rattle.quanta_param.proofs.Params.{signer_missing, signer_past, signer_byless, by_ready, signer_nameless, signer_took}
 use Rattle.quanta_grammar.specs.Refine.{blank}
 use Rattle.quanta_param.proofs.decl.signed_by.Goals as goal
 
 pub returns-then-peek-ne-SIGNED : goal.returns-then-peek-ne-SIGNED
-returns-then-peek-ne-SIGNED c = λ src a x. missing (signer_missing src c.args.tokens.now a c.requires x (λ z. c.if-peek-ne-SIGNED.true (c.peek.ensures ∙ z))) refl
+returns-then-peek-ne-SIGNED c =
+    λ src a x. missing (signer_missing src c.args.tokens.now a c.requires x (λ z. c.if-peek-ne-SIGNED.true
+    (c.peek.ensures ∙ z))) refl
 
 pub expect-requires : goal.expect-requires
-expect-requires c = let z = signer_past blank c.args.tokens.now 0 c.requires fresh (sym c.peek.ensures ∙ c.if-peek-ne-SIGNED.false) c.bump.ensures in (z.inside, z.closed.few)
+expect-requires c =
+    let z = signer_past blank c.args.tokens.now 0 c.requires fresh (sym c.peek.ensures ∙ c.if-peek-ne-SIGNED.false)
+    c.bump.ensures in
+    (z.inside, z.closed.few)
 
 pub expect_ident-requires : goal.expect_ident-requires
-expect_ident-requires c = by_ready blank c.args.tokens.now 0 c.requires fresh (sym c.peek.ensures ∙ c.if-peek-ne-SIGNED.false) c.bump.ensures c.expect.ensures c.in-Ok.is
+expect_ident-requires c =
+    by_ready blank c.args.tokens.now 0 c.requires fresh (sym c.peek.ensures ∙ c.if-peek-ne-SIGNED.false)
+    c.bump.ensures c.expect.ensures c.in_ok-next.was
 
-pub returns-in-Err : goal.returns-in-Err
-returns-in-Err c = λ src a x. failed_opt (signer_byless src c.args.tokens.now a c.requires x (sym c.peek.ensures ∙ c.if-peek-ne-SIGNED.false) c.bump.ensures c.expect.ensures c.in-Err.is)
+pub returns-in_err-next : goal.returns-in_err-next
+returns-in_err-next c =
+    λ src a x. fails_opt c.from_residual.ensures.1 (signer_byless src c.args.tokens.now a c.requires x (sym
+    c.peek.ensures ∙ c.if-peek-ne-SIGNED.false) c.bump.ensures c.expect.ensures c.in_err-next.was)
 
-pub returns-in-Err-expect_ident : goal.returns-in-Err-expect_ident
-returns-in-Err-expect_ident c = λ src a x. failed_opt (signer_nameless src c.args.tokens.now a c.requires x (sym c.peek.ensures ∙ c.if-peek-ne-SIGNED.false) c.bump.ensures c.expect.ensures c.in-Ok.is c.expect_ident.ensures c.in-Err-expect_ident.is)
+pub returns-in_err-signer : goal.returns-in_err-signer
+returns-in_err-signer c =
+    λ src a x. fails_opt c.from_residual-in_err-signer.ensures.1 (signer_nameless src c.args.tokens.now a c.requires x
+    (sym c.peek.ensures ∙ c.if-peek-ne-SIGNED.false) c.bump.ensures c.expect.ensures c.in_ok-next.was
+    c.expect_ident.ensures c.in_err-signer.was)
 
-pub returns-in-Ok-expect_ident : goal.returns-in-Ok-expect_ident
-returns-in-Ok-expect_ident c = λ src a x. took_opt (signer_took src c.args.tokens.now a c.requires x (sym c.peek.ensures ∙ c.if-peek-ne-SIGNED.false) c.bump.ensures c.expect.ensures c.in-Ok.is c.expect_ident.ensures c.in-Ok-expect_ident.is)
+pub returns : goal.returns
+returns c =
+    λ src a x. took_opt (signer_took src c.args.tokens.now a c.requires x (sym c.peek.ensures ∙
+    c.if-peek-ne-SIGNED.false) c.bump.ensures c.expect.ensures c.in_ok-next.was c.expect_ident.ensures
+    c.in_ok-signer.was)
