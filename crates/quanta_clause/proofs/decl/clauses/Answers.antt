@@ -12,7 +12,7 @@ use Rattle.quanta_cursor.proofs.WordLists.{names_law, list_begun, list_ends, com
 use Rattle.quanta_clause.proofs.Clauses.{names_past, behind, names_none, inside_ready, inside_word, names_bad, names_met}
 use Rattle.quanta_clause.proofs.Turns.{is_name, is_names, is_expr, names_start, name_start, expr_start, after_start, no_start, Turn, turned, clauses_end}
 use Rattle.quanta_clause.proofs.decl.clauses.Goals as goal
-use Rattle.quanta_clause.proofs.decl.clauses.Goals.{in-24, in-28, in-29+in-Refused, in-29+in-Node+then-peek-ne-COMMA, in-31}
+use Rattle.quanta_clause.proofs.decl.clauses.Goals.{in-24, in-28, in-29+in-Err, in-29+in-Ok+then-peek-ne-COMMA, in-31}
 
 pub clauses-init : goal.clauses-init
 clauses-init c = λ e. run_begun clauses_run c.args.allowance c.requires
