@@ -1,6 +1,6 @@
 -- A block: each way through its reader, and a declaration that ends with it.
 -- Assumes nothing.
-use Rattle.std.specs.Prelude.{Err, Ok, Result}
+use Rattle.std.specs.Prelude.{Err, IsErrAnd, Ok, Result}
 use mathlib.Core.Path.{◌≡◌, refl, ap, sym, subst, ◌∙◌}
 use mathlib.Core.List.{List, [], ◌∷◌}
 use Prim.Native.Nat.{ℕ, ◌+◌, ◌≤◌}
@@ -24,6 +24,7 @@ use Rattle.quanta_cursor.specs.Tree.{put_rec, rec_of}
 use Rattle.quanta_cursor.specs.Answers.{Failed, Took, TookAll, Lists}
 use Rattle.quanta_cursor.specs.Lists.{grown}
 use Rattle.quanta_cursor.specs.Cursor.{joined, span_at, Expects}
+use Rattle.quanta_cursor.proofs.Exits.{handed}
 use Rattle.quanta_cursor.proofs.Places.{laid_glue, all_ready, all_few}
 use Rattle.quanta_cursor.proofs.Meeting.{all_of, all_failed_of}
 use Rattle.quanta_cursor.proofs.Lists.{glue_none, count_glue}
@@ -41,6 +42,9 @@ module _ {o : Outcome} {src : Text} {ws t : List ℕ} {n : ℕ} {t' : List ℕ} 
 
   pub failed_block : {e : Refusal} → Failed o e → MeetsBlock o src ws t n (Err e) t'
   failed_block f = record { by = f }
+
+  pub fails_block : {r : Result Body Refusal} {e : Refusal} → IsErrAnd r (λ y. y ≡ e) → Failed o e → MeetsBlock o src ws t n r t'
+  fails_block h f = subst (λ (r : Result Body Refusal). MeetsBlock o src ws t n r t') (sym (handed h)) (failed_block f)
 
   pub block_of : {r : Result Body Refusal} {m : Body} → r ≡ Ok m → MeetsBlock o src ws t n r t' → TookBlock o src ws t n m t'
   block_of z m = subst (λ (r : Result Body Refusal). AnswersBlock o src ws t n r t') z m.by

@@ -3,20 +3,30 @@
 use mathlib.Core.Path.{refl}
 use Rattle.quanta_grammar.specs.NodeKind.{node_code, asset_node}
 use Rattle.quanta_cursor.proofs.Places.{ready_small}
-use Rattle.quanta_cursor.proofs.Meeting.{failed}
+use Rattle.quanta_cursor.proofs.Meeting.{fails}
 use Rattle.quanta_cursor.proofs.Under.{closes_as}
 use Rattle.quanta_item.proofs.Items.{asset_key, unnamed, named, semi_shut}
 use Rattle.quanta_grammar.specs.Refine.{blank}
 use Rattle.quanta_item.proofs.decl.asset_decl.Goals as goal
 
 pub expect_ident-requires : goal.expect_ident-requires
-expect_ident-requires c = (asset_key blank c.args.tokens.now 0 c.requires.0 c.bump.ensures c.args.tree.now c.requires.1).ready
+expect_ident-requires c =
+    (asset_key blank c.args.tokens.now 0 c.requires.0 c.bump.ensures c.args.tree.now c.requires.1).ready
 
 pub close_semi-requires : goal.close_semi-requires
-close_semi-requires c = ((named (asset_key blank c.args.tokens.now 0 c.requires.0 c.bump.ensures c.args.tree.now c.requires.1) c.expect_ident.ensures c.in-Ok.is).ready, ready_small c.requires.0)
+close_semi-requires c = (
+  (named (asset_key blank c.args.tokens.now 0 c.requires.0 c.bump.ensures c.args.tree.now c.requires.1)
+      c.expect_ident.ensures c.in_ok-name.was).ready,
+  ready_small c.requires.0,
+)
 
-pub returns-in-Err : goal.returns-in-Err
-returns-in-Err c = λ src a. failed (unnamed (asset_key src c.args.tokens.now a c.requires.0 c.bump.ensures c.args.tree.now c.requires.1) c.expect_ident.ensures c.in-Err.is)
+pub returns-in_err-name : goal.returns-in_err-name
+returns-in_err-name c =
+    λ src a. fails c.from_residual.ensures.1 (unnamed (asset_key src c.args.tokens.now a c.requires.0 c.bump.ensures
+    c.args.tree.now c.requires.1) c.expect_ident.ensures c.in_err-name.was)
 
-pub returns-in-Ok : goal.returns-in-Ok
-returns-in-Ok c = λ src a. semi_shut (node_code asset_node) refl (named (asset_key src c.args.tokens.now a c.requires.0 c.bump.ensures c.args.tree.now c.requires.1) c.expect_ident.ensures c.in-Ok.is) refl (closes_as c.peek_span-span.ensures c.close_semi.ensures)
+pub returns : goal.returns
+returns c =
+    λ src a. semi_shut (node_code asset_node) refl (named (asset_key src c.args.tokens.now a c.requires.0
+    c.bump.ensures c.args.tree.now c.requires.1) c.expect_ident.ensures c.in_ok-name.was) refl (closes_as
+    c.peek_span.ensures c.close_semi.ensures)

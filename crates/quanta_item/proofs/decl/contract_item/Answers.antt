@@ -16,4 +16,28 @@ pub returns-in-14 : goal.returns-in-14
 returns-in-14 c = c.invariant_decl.ensures (text c.args.edition c.args.src.now)
 
 pub returns-in_default : goal.returns-in_default
-returns-in_default c = failed (no_item (text c.args.edition c.args.src.now) c.args.tokens.now c.args.allowance c.requires (λ z. c.in_default.in_default-own.rest.0.0.0.0.0.1 (c.peek.ensures ∙ z), (λ z. c.in_default.in_default-own.rest.0.0.0.0.1 (c.peek.ensures ∙ z), (λ z. c.in_default.in_default-own.rest.0.0.0.1 (c.peek.ensures ∙ z), (λ z. c.in_default.in_default-own.rest.0.0.1 (c.peek.ensures ∙ z), (λ z. c.in_default.in_default-own.rest.0.1 (c.peek.ensures ∙ z), (λ z. c.in_default.in_default-own.rest.1 (c.peek.ensures ∙ z), tt)))))) c.err.ensures)
+returns-in_default c =
+    failed (no_item (text c.args.edition c.args.src.now) c.args.tokens.now c.args.allowance c.requires (
+      λ z.
+          c.in_default.in_default-own.rest.0.0.0.0.0.1 (c.peek.ensures ∙ z),
+      (
+        λ z.
+            c.in_default.in_default-own.rest.0.0.0.0.1 (c.peek.ensures ∙ z),
+        (
+          λ z. c.in_default.in_default-own.rest.0.0.0.1
+              (c.peek.ensures ∙ z),
+          (
+            λ z. c.in_default.in_default-own.rest.0.0.1 (c.peek.ensures ∙ z),
+            (
+              λ z.
+                  c.in_default.in_default-own.rest.0.1 (c.peek.ensures ∙ z),
+              (
+                λ z. c.in_default.in_default-own.rest.1
+                    (c.peek.ensures ∙ z),
+                tt,
+              ),
+            ),
+          ),
+        ),
+      ),
+    ) c.err.ensures)

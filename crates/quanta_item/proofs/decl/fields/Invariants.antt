@@ -8,7 +8,9 @@ use Rattle.quanta_cursor.proofs.Listing.{Rolling}
 use Rattle.quanta_item.proofs.decl.fields.Given as goal
 
 abbrev pub invariant-loop-edition : goal.invariant-loop-edition
-invariant-loop-edition l = Rolling fields (text l.edition l.src) l.tokens l.allowance l.initial.next.0 l.initial.no.0 l.initial.count l.initial.tree l.next.0 l.no.0 l.count l.tree
+invariant-loop-edition l =
+    Rolling fields (text l.edition l.src) l.tokens l.allowance l.initial.next.0 l.initial.no.0 l.initial.count
+    l.initial.tree l.next.0 l.no.0 l.count l.tree
 
 abbrev pub decreases-loop-edition : goal.decreases-loop-edition
 decreases-loop-edition l = size l.tokens - l.next.0

@@ -5,25 +5,46 @@ use mathlib.Core.Path.{refl}
 use Rattle.quanta_grammar.specs.NodeKind.{node_code, state_node}
 use Rattle.quanta_grammar.specs.Productions.{fields}
 use Rattle.quanta_cursor.proofs.Places.{ready_small}
-use Rattle.quanta_cursor.proofs.Meeting.{failed}
+use Rattle.quanta_cursor.proofs.Meeting.{fails}
 use Rattle.quanta_cursor.proofs.Under.{closes_as}
 use Rattle.quanta_item.proofs.Items.{state_key, unopened, opened, unlisted, listed_in, listed_count, by_itself, brace_shut}
 use Rattle.quanta_item.proofs.decl.state_block.Goals as goal
 
 pub expect-requires : goal.expect-requires
-expect-requires c = let z = (state_key (text c.args.edition c.args.src.now) c.args.tokens.now c.args.allowance c.requires.0 c.bump.ensures c.args.tree.now c.requires.1).ready in (z.inside, z.closed.few)
+expect-requires c =
+    let z = (state_key (text c.args.edition c.args.src.now) c.args.tokens.now c.args.allowance c.requires.0
+    c.bump.ensures c.args.tree.now c.requires.1).ready in
+    (z.inside, z.closed.few)
 
 pub fields-requires : goal.fields-requires
-fields-requires c = (opened (state_key (text c.args.edition c.args.src.now) c.args.tokens.now c.args.allowance c.requires.0 c.bump.ensures c.args.tree.now c.requires.1) c.expect.ensures c.in-Ok.is).ready
+fields-requires c =
+    (opened (state_key (text c.args.edition c.args.src.now) c.args.tokens.now c.args.allowance c.requires.0
+    c.bump.ensures c.args.tree.now c.requires.1) c.expect.ensures c.in_ok-inside.was).ready
 
 pub close-requires : goal.close-requires
-close-requires c = ((listed_in fields tt (opened (state_key (text c.args.edition c.args.src.now) c.args.tokens.now c.args.allowance c.requires.0 c.bump.ensures c.args.tree.now c.requires.1) c.expect.ensures c.in-Ok.is) c.fields.ensures c.in-Ok-fields.is).ready, ready_small c.requires.0)
+close-requires c = (
+  (listed_in fields tt (opened (state_key (text c.args.edition c.args.src.now) c.args.tokens.now c.args.allowance
+      c.requires.0 c.bump.ensures c.args.tree.now c.requires.1) c.expect.ensures c.in_ok-inside.was) c.fields.ensures
+      c.in_ok-fields.was).ready,
+  ready_small c.requires.0,
+)
 
-pub returns-in-Err : goal.returns-in-Err
-returns-in-Err c = failed (unopened (state_key (text c.args.edition c.args.src.now) c.args.tokens.now c.args.allowance c.requires.0 c.bump.ensures c.args.tree.now c.requires.1) c.expect.ensures c.in-Err.is)
+pub returns-in_err-inside : goal.returns-in_err-inside
+returns-in_err-inside c =
+    fails c.from_residual.ensures.1 (unopened (state_key (text c.args.edition c.args.src.now) c.args.tokens.now
+    c.args.allowance c.requires.0 c.bump.ensures c.args.tree.now c.requires.1) c.expect.ensures c.in_err-inside.was)
 
-pub returns-in-Err-fields : goal.returns-in-Err-fields
-returns-in-Err-fields c = failed (unlisted fields tt (opened (state_key (text c.args.edition c.args.src.now) c.args.tokens.now c.args.allowance c.requires.0 c.bump.ensures c.args.tree.now c.requires.1) c.expect.ensures c.in-Ok.is) c.fields.ensures c.in-Err-fields.is)
+pub returns-in_err-fields : goal.returns-in_err-fields
+returns-in_err-fields c =
+    fails c.from_residual-in_err-fields.ensures.1 (unlisted fields tt (opened (state_key (text c.args.edition
+    c.args.src.now) c.args.tokens.now c.args.allowance c.requires.0 c.bump.ensures c.args.tree.now c.requires.1)
+    c.expect.ensures c.in_ok-inside.was) c.fields.ensures c.in_err-fields.was)
 
-pub returns-in-Ok-fields : goal.returns-in-Ok-fields
-returns-in-Ok-fields c = brace_shut (node_code state_node) refl (listed_in fields tt (opened (state_key (text c.args.edition c.args.src.now) c.args.tokens.now c.args.allowance c.requires.0 c.bump.ensures c.args.tree.now c.requires.1) c.expect.ensures c.in-Ok.is) c.fields.ensures c.in-Ok-fields.is) (by_itself (listed_count fields tt (opened (state_key (text c.args.edition c.args.src.now) c.args.tokens.now c.args.allowance c.requires.0 c.bump.ensures c.args.tree.now c.requires.1) c.expect.ensures c.in-Ok.is) c.fields.ensures c.in-Ok-fields.is)) (closes_as c.peek_span-span.ensures c.close.ensures)
+pub returns : goal.returns
+returns c =
+    brace_shut (node_code state_node) refl (listed_in fields tt (opened (state_key (text c.args.edition
+    c.args.src.now) c.args.tokens.now c.args.allowance c.requires.0 c.bump.ensures c.args.tree.now c.requires.1)
+    c.expect.ensures c.in_ok-inside.was) c.fields.ensures c.in_ok-fields.was) (by_itself (listed_count fields tt
+    (opened (state_key (text c.args.edition c.args.src.now) c.args.tokens.now c.args.allowance c.requires.0
+    c.bump.ensures c.args.tree.now c.requires.1) c.expect.ensures c.in_ok-inside.was) c.fields.ensures
+    c.in_ok-fields.was)) (closes_as c.peek_span.ensures c.close.ensures)
