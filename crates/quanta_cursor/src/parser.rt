@@ -59,6 +59,16 @@ pub struct Nodes {
     pub count: u32,
 }
 
+// Nodes one after the other with a span: the statements of a block, from brace to brace; the imports or the contracts of a
+// program, up to the last one's.
+#[derive(Clone, Copy)]
+pub struct Run {
+    pub at: TokenPos,
+    pub no: RecordNo,
+    pub count: u32,
+    pub span: Span,
+}
+
 #[derive(Clone, Copy)]
 pub struct Refusal {
     pub number: u32,

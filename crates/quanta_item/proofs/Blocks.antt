@@ -24,48 +24,48 @@ use Rattle.quanta_cursor.specs.Tree.{put_rec, rec_of}
 use Rattle.quanta_cursor.specs.Answers.{Failed, Took, TookAll, Lists}
 use Rattle.quanta_cursor.specs.Lists.{grown}
 use Rattle.quanta_cursor.specs.Cursor.{joined, span_at, Expects}
-use Rattle.quanta_cursor.proofs.Exits.{handed}
+use Rattle.quanta_cursor.proofs.Exits.{exits}
 use Rattle.quanta_cursor.proofs.Places.{laid_glue, all_ready, all_few}
 use Rattle.quanta_cursor.proofs.Meeting.{all_of, all_failed_of}
 use Rattle.quanta_cursor.proofs.Lists.{glue_none, count_glue}
 use Rattle.quanta_cursor.proofs.Nodes.{node_of, node_is}
 use Rattle.quanta_cursor.proofs.Doing.{bring, fails, over, ends}
 use Rattle.quanta_cursor.proofs.Under.{Under, starts, expects, unexpected, unphrased, alled}
-use Rattle.quanta_item.specs.declared.decl.Body.{Body}
+use Rattle.quanta_cursor.specs.declared.parser.Run.{Run}
 use Rattle.quanta_item.specs.Blocks.{TookBlock, AnswersBlock, MeetsBlock, decl_span, decl_rec, decl_node}
 use Rattle.quanta_grammar.specs.Refine.{Text}
 
 -- an answer that is made, and one that is taken apart
 module _ {o : Outcome} {src : Text} {ws t : List ℕ} {n : ℕ} {t' : List ℕ} where
-  pub took_block : {r : Body} → TookBlock o src ws t n r t' → MeetsBlock o src ws t n (Ok r) t'
+  pub took_block : {r : Run} → TookBlock o src ws t n r t' → MeetsBlock o src ws t n (Ok r) t'
   took_block k = record { by = k }
 
   pub failed_block : {e : Refusal} → Failed o e → MeetsBlock o src ws t n (Err e) t'
   failed_block f = record { by = f }
 
-  pub fails_block : {r : Result Body Refusal} {e : Refusal} → IsErrAnd r (λ y. y ≡ e) → Failed o e → MeetsBlock o src ws t n r t'
-  fails_block h f = subst (λ (r : Result Body Refusal). MeetsBlock o src ws t n r t') (sym (handed h)) (failed_block f)
+  pub fails_block : {r : Result Run Refusal} {e : Refusal} → IsErrAnd r (λ y. y ≡ e) → Failed o e → MeetsBlock o src ws t n r t'
+  fails_block h f = exits (λ r. MeetsBlock o src ws t n r t') h (failed_block f)
 
-  pub block_of : {r : Result Body Refusal} {m : Body} → r ≡ Ok m → MeetsBlock o src ws t n r t' → TookBlock o src ws t n m t'
-  block_of z m = subst (λ (r : Result Body Refusal). AnswersBlock o src ws t n r t') z m.by
+  pub block_of : {r : Result Run Refusal} {m : Run} → r ≡ Ok m → MeetsBlock o src ws t n r t' → TookBlock o src ws t n m t'
+  block_of z m = subst (λ (r : Result Run Refusal). AnswersBlock o src ws t n r t') z m.by
 
-  pub block_failed_of : {r : Result Body Refusal} {e : Refusal} → r ≡ Err e → MeetsBlock o src ws t n r t' → Failed o e
-  block_failed_of z m = subst (λ (r : Result Body Refusal). AnswersBlock o src ws t n r t') z m.by
+  pub block_failed_of : {r : Result Run Refusal} {e : Refusal} → r ≡ Err e → MeetsBlock o src ws t n r t' → Failed o e
+  block_failed_of z m = subst (λ (r : Result Run Refusal). AnswersBlock o src ws t n r t') z m.by
 
 -- its records stand side by side, as a list's
-abbrev list_of : Body → Nodes
+abbrev list_of : Run → Nodes
 list_of m = record { at = m.at; no = m.no; count = m.count }
 
-as_list : {o : Outcome} {src : Text} {ws t : List ℕ} {n : ℕ} {m : Body} {t' : List ℕ} → TookBlock o src ws t n m t' → TookAll o src ws t n (list_of m) t'
+as_list : {o : Outcome} {src : Text} {ws t : List ℕ} {n : ℕ} {m : Run} {t' : List ℕ} → TookBlock o src ws t n m t' → TookAll o src ws t n (list_of m) t'
 as_list k = record { acc = k.acc; gave = k.gave; many = k.many; laid = k.laid; inside = k.inside }
 
-pub block_ready : (src : Text) (a : ℕ) {ws : List ℕ} {i n : ℕ} {t : List ℕ} {m : Body} {t' : List ℕ} → Ready ws i n → TookBlock (reads block a (from src ws i) fresh) src ws t n m t' → Ready ws m.at.0 m.no.0
+pub block_ready : (src : Text) (a : ℕ) {ws : List ℕ} {i n : ℕ} {t : List ℕ} {m : Run} {t' : List ℕ} → Ready ws i n → TookBlock (reads block a (from src ws i) fresh) src ws t n m t' → Ready ws m.at.0 m.no.0
 block_ready src a g k = all_ready src block a g (as_list k)
 
-pub block_few : {o : Outcome} {src : Text} {ws t : List ℕ} {n : ℕ} {m : Body} {t' : List ℕ} → TookBlock o src ws t n m t' → m.count + n ≤ m.no.0
+pub block_few : {o : Outcome} {src : Text} {ws t : List ℕ} {n : ℕ} {m : Run} {t' : List ℕ} → TookBlock o src ws t n m t' → m.count + n ≤ m.no.0
 block_few k = all_few (as_list k)
 
-pub block_count : {o : Outcome} {src : Text} {ws t : List ℕ} {n : ℕ} {m : Body} {t' : List ℕ} (row : Row) (k : TookBlock o src ws t n m t') → count (glue row k.acc.row) ≡ m.count + count row
+pub block_count : {o : Outcome} {src : Text} {ws t : List ℕ} {n : ℕ} {m : Run} {t' : List ℕ} (row : Row) (k : TookBlock o src ws t n m t') → count (glue row k.acc.row) ≡ m.count + count row
 block_count row k = let x = k.many in omega (arith, count_glue row k.acc.row)
 
 -- THE BLOCK: a brace, statements, a brace
@@ -101,7 +101,7 @@ module _ (src : Text) (ws : List ℕ) (a : ℕ) {i n : ℕ} (g : Ready ws i n) (
           pub block_unclosed : {u : Refusal} → y₂ ≡ Err u → Failed (reads block a (from src ws i) fresh) u
           block_unclosed z = unexpected (code RBrace) filled tt tt (λ i. refl) z v₂
 
-          pub block_took : {p : TokenPos} {r : Body} → y₂ ≡ Ok p → r.at.0 ≡ p.0 → r.no.0 ≡ m.no.0 → r.count ≡ m.count → r.span ≡ joined (span_at ws i) (span_at ws m.at.0)
+          pub block_took : {p : TokenPos} {r : Run} → y₂ ≡ Ok p → r.at.0 ≡ p.0 → r.no.0 ≡ m.no.0 → r.count ≡ m.count → r.span ≡ joined (span_at ws i) (span_at ws m.at.0)
               → TookBlock (reads block a (from src ws i) fresh) src ws t n r t₁
           block_took {p} {r} z e f h s =
               let d = expects (code RBrace) filled tt (λ u. u) z v₂ in
@@ -127,7 +127,7 @@ module _ {o : Outcome} {src : Text} {ws : List ℕ} {t₀ : Tok} {i a p : ℕ} {
   abbrev over_all : Row → Reached → ℕ → ℕ → Acc
   over_all body s flag c = record { row = put none (rec_of kind flag i (least (join (span_of (tok_at src ws i)) s)) (upto (join (span_of (tok_at src ws i)) s)) c) (glue row body); reach = join (span_of (tok_at src ws i)) s; mine = no_tok; sum = 0 }
 
-  pub bodied : {m : Body} {tree' : List ℕ} {c : ℕ} {r : Node} {t' : List ℕ} (k : TookBlock (reads block a (from src ws p) fresh) src ws tree q m tree') → c ≡ count (glue row k.acc.row)
+  pub bodied : {m : Run} {tree' : List ℕ} {c : ℕ} {r : Node} {t' : List ℕ} (k : TookBlock (reads block a (from src ws p) fresh) src ws tree q m tree') → c ≡ count (glue row k.acc.row)
       → r ≡ decl_node ws kind i m → t' ≡ put_rec tree' m.no.0 (decl_rec ws kind i m c) → Took o src ws t n r t'
   bodied {m} {tree'} {c} {r} {t'} k h e w =
       subst (λ (r : Node). Took o src ws t n r t') (sym e) (ends (decl_rec ws kind i m c) (bring u.doing tt k.gave) refl
@@ -140,8 +140,8 @@ module _ {o : Outcome} {src : Text} {ws : List ℕ} {t₀ : Tok} {i a p : ℕ} {
 pub joined_as : {s x y x' y' : Span} → s ≡ joined x y → x ≡ x' → y ≡ y' → s ≡ joined x' y'
 joined_as {x' = x'} {y'} e f h = rw (e, f, h) refl
 
-pub decl_span_lem : (ws : List ℕ) (i : ℕ) (m : Body) {s z : Span} → z ≡ span_at ws i → s ≡ joined z m.span → s ≡ decl_span ws i m
+pub decl_span_lem : (ws : List ℕ) (i : ℕ) (m : Run) {s z : Span} → z ≡ span_at ws i → s ≡ joined z m.span → s ≡ decl_span ws i m
 decl_span_lem ws i m e f = joined_as f e refl
 
-pub decl_is : (ws : List ℕ) (kind i : ℕ) (m : Body) {q : RecordNo} {s : Span} → s ≡ decl_span ws i m → q.0 ≡ m.no.0 + 1 → node_of m.at q s kind ≡ decl_node ws kind i m
+pub decl_is : (ws : List ℕ) (kind i : ℕ) (m : Run) {q : RecordNo} {s : Span} → s ≡ decl_span ws i m → q.0 ≡ m.no.0 + 1 → node_of m.at q s kind ≡ decl_node ws kind i m
 decl_is ws kind i m e h = node_is kind m.at.0 (m.no.0 + 1) refl h e

@@ -35,7 +35,7 @@ use Rattle.quanta_cursor.proofs.Meeting.{took_of, failed_of, all_of, all_failed_
 use Rattle.quanta_cursor.proofs.Doing.{refuses_at}
 use Rattle.quanta_cursor.proofs.Lists.{count_glue}
 use Rattle.quanta_cursor.proofs.Under.{Under, starts, owned, expects, unexpected, worded_in, unworded, phrased, unphrased, alled, closed_by}
-use Rattle.quanta_item.specs.declared.decl.Body.{Body}
+use Rattle.quanta_cursor.specs.declared.parser.Run.{Run}
 use Rattle.quanta_item.specs.Blocks.{TookBlock}
 use Rattle.quanta_item.proofs.Blocks.{block_few, block_count, keyed}
 
@@ -160,7 +160,7 @@ module _ {o : Outcome} {src : Text} {ws t : List ℕ} {q : ℕ} {m : Nodes} {tre
   two_small g = let x = all_few k in omega (arith, g.fits, g.inside, g.closed.few)
 
   -- an entry's parameters, clauses and statements
-  module _ {o₁ : Outcome} {m₁ : Nodes} {tree₁ : List ℕ} (k₁ : TookAll o₁ src ws tree m.no.0 m₁ tree₁) {o₂ : Outcome} {m₂ : Body} {tree₂ : List ℕ} (k₂ : TookBlock o₂ src ws tree₁ m₁.no.0 m₂ tree₂) where
+  module _ {o₁ : Outcome} {m₁ : Nodes} {tree₁ : List ℕ} (k₁ : TookAll o₁ src ws tree m.no.0 m₁ tree₁) {o₂ : Outcome} {m₂ : Run} {tree₂ : List ℕ} (k₂ : TookBlock o₂ src ws tree₁ m₁.no.0 m₂ tree₂) where
     pub four_small : {p : ℕ} → Ready ws p m₂.no.0 → m.count + m₁.count + m₂.count + 1 < 4294967296
     four_small g =
         let x = all_few k in

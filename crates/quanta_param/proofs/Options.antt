@@ -27,7 +27,7 @@ use Rattle.quanta_cursor.specs.Answers.{single, Failed, Took}
 use Rattle.quanta_cursor.specs.Cursor.{err_at, Expects}
 use Rattle.quanta_cursor.proofs.Sets.{coarse, fine_in, is_one, not_one}
 use Rattle.quanta_cursor.proofs.Places.{past_as, laid_glue, ready_past}
-use Rattle.quanta_cursor.proofs.Exits.{handed}
+use Rattle.quanta_cursor.proofs.Exits.{exits}
 use Rattle.quanta_cursor.proofs.Meeting.{next_of, lacks_of}
 use Rattle.quanta_cursor.proofs.Doing.{Doing, eat, lack, fold_in, ends}
 use Rattle.quanta_cursor.proofs.Under.{leaf_of_lem, Under, leaves, worded, folded, unfolded}
@@ -95,7 +95,7 @@ module _ {o : Outcome} {x : Acc} {y : Reach} {f : ℕ} {src : Text} {ws : List �
 
   pub fails_opt : {r : Result (Option Node) Refusal} {e : Refusal} → IsErrAnd r (λ y. y ≡ e) → Failed o e
       → MeetsOpt o x y f src ws i t n r t'
-  fails_opt h k = subst (λ (r : Result (Option Node) Refusal). MeetsOpt o x y f src ws i t n r t') (sym (handed h)) (failed_opt k)
+  fails_opt h k = exits (λ r. MeetsOpt o x y f src ws i t n r t') h (failed_opt k)
 
   pub missing_of : {r : Result (Option Node) Refusal} → r ≡ Ok None → MeetsOpt o x y f src ws i t n r t' → (o ≡ left x (from src ws i)) × (t' ≡ t)
   missing_of z m = subst (λ (r : Result (Option Node) Refusal). AnswersOpt o x y f src ws i t n r t') z m.by

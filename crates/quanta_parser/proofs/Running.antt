@@ -1,6 +1,6 @@
 -- Imports and contracts one after the other: what is under way at each turn of their loops, and what is left at the end.
 -- Assumes nothing.
-use Rattle.std.specs.Prelude.{Err, Ok, Result}
+use Rattle.std.specs.Prelude.{Err, Ok, Result, IsErrAnd}
 use mathlib.Core.Path.{◌≡◌, refl, ap, sym, subst, ◌∙◌}
 use mathlib.Core.Bool.{not}
 use mathlib.Core.List.{List, [], ◌∷◌}
@@ -25,11 +25,12 @@ use Rattle.quanta_cursor.specs.declared.parser.Refusal.{Refusal}
 use Rattle.quanta_cursor.specs.Tokens.{kind_at, from, Ready}
 use Rattle.quanta_cursor.specs.Tree.{Laid}
 use Rattle.quanta_cursor.specs.Answers.{Failed, Took}
+use Rattle.quanta_cursor.proofs.Exits.{exits}
 use Rattle.quanta_cursor.proofs.Sets.{coarse, fine_in, fine_out, is_one, not_one}
 use Rattle.quanta_cursor.proofs.Places.{from_at, laid_none, laid_glue, took_ready, took_onward}
 use Rattle.quanta_cursor.proofs.Meeting.{failed_onward}
 use Rattle.quanta_cursor.proofs.Lists.{took_more}
-use Rattle.quanta_parser.specs.declared.program.Run.{Run}
+use Rattle.quanta_cursor.specs.declared.parser.Run.{Run}
 use Rattle.quanta_parser.specs.Runs.{onto, last_or, TookRun, AnswersRun, MeetsRun}
 use Rattle.quanta_grammar.specs.Refine.{Text}
 
@@ -60,6 +61,10 @@ contracts_law = law_by contracts contract (code Contract) tt tt contracts_loop
 module _ {o : Outcome} {x : Acc} {src : Text} {ws t : List ℕ} {n : ℕ} {s : Span} {r : Result Run Refusal} {t' : List ℕ} where
   pub run_of : {m : Run} → r ≡ Ok m → MeetsRun o x src ws t n s r t' → TookRun o x src ws t n s m t'
   run_of z m = subst (λ (r : Result Run Refusal). AnswersRun o x src ws t n s r t') z m.by
+
+  -- a refusal that a `?` hands on
+  pub fails_run : {e : Refusal} → IsErrAnd r (λ y. y ≡ e) → Failed o e → MeetsRun o x src ws t n s r t'
+  fails_run h f = exits (λ r. MeetsRun o x src ws t n s r t') h (record { by = f })
 
   pub run_failed_of : {e : Refusal} → r ≡ Err e → MeetsRun o x src ws t n s r t' → Failed o e
   run_failed_of z m = subst (λ (r : Result Run Refusal). AnswersRun o x src ws t n s r t') z m.by

@@ -1,7 +1,7 @@
 -- The whole readings: each way through a call.
 -- Assumes nothing.
-use Rattle.std.specs.Prelude.{Err, Ok, Result}
-use mathlib.Core.Path.{◌≡◌, refl, ap, ◌∙◌}
+use Rattle.std.specs.Prelude.{Err, IsErrAnd, Ok, Result}
+use mathlib.Core.Path.{◌≡◌, refl, ap, sym, subst, ◌∙◌}
 use mathlib.Core.Bool.{not}
 use mathlib.Core.List.{List, [], ◌∷◌}
 use Prim.Native.Nat.{ℕ, ◌+◌, ◌<◌, ◌≤◌, min, max}
@@ -26,18 +26,19 @@ use Rattle.quanta_cursor.specs.declared.parser.Refusal.{Refusal}
 use Rattle.quanta_cursor.specs.Tokens.{size, kind_at, start_at, stop_at, from, tok_at, Closed, Ready}
 use Rattle.quanta_cursor.specs.Tree.{rec_of, put_rec}
 use Rattle.quanta_cursor.specs.Answers.{single, Failed, Took, Reads}
-use Rattle.quanta_cursor.specs.Cursor.{joined, span_at, ExpectsEof}
+use Rattle.quanta_cursor.specs.Cursor.{joined, span_at, err_at, ExpectsEof}
 use Rattle.quanta_cursor.proofs.Sets.{is_one, not_one}
 use Rattle.quanta_cursor.proofs.Places.{from_end, laid_none, laid_glue, laid_put, all_few}
+use Rattle.quanta_cursor.proofs.Exits.{exits}
 use Rattle.quanta_cursor.proofs.Meeting.{took_of, failed_of, eof_of, more_of}
 use Rattle.quanta_cursor.proofs.Doing.{Doing, begin, eat, lack, bring, fails, over}
 use Rattle.quanta_cursor.proofs.Lists.{glue_none, count_glue}
 use Rattle.quanta_cursor.proofs.Under.{Under, starts, folded, unfolded}
 use Rattle.quanta_type.specs.Halves.{half_from, half_err, TookHalf}
 use Rattle.quanta_type.proofs.Halves.{bring_any, eof_tail, eof_shown}
-use Rattle.quanta_parser.specs.declared.program.Run.{Run}
+use Rattle.quanta_cursor.specs.declared.parser.Run.{Run}
 use Rattle.quanta_parser.specs.Runs.{onto, last_or, TookRun, Runs}
-use Rattle.quanta_parser.specs.Whole.{TookWhole, MeetsWhole}
+use Rattle.quanta_parser.specs.Whole.{TookWhole, AnswersWhole, MeetsWhole, End, Ends}
 use Rattle.quanta_parser.proofs.Running.{run_of, run_failed_of}
 use Rattle.quanta_grammar.specs.Refine.{Text}
 
@@ -45,6 +46,11 @@ use Rattle.quanta_grammar.specs.Refine.{Text}
 nothing_behind : (src : Text) (ws : List ℕ) {p : ℕ} → Closed ws → p < size ws → kind_at ws p ≡ code Eof
     → from src ws (p + 1) ≡ []
 nothing_behind src ws {p} c h e = from_end src ws (p + 1) (c.only p h e)
+
+-- a refusal that a `?` hands on
+pub fails_whole : {o : Outcome} {t : List ℕ} {r : Result Node Refusal} {e : Refusal} {t' : List ℕ}
+    → IsErrAnd r (λ y. y ≡ e) → Failed o e → MeetsWhole o t r t'
+fails_whole {o} {t} {t' = t'} h f = exits (λ r. MeetsWhole o t r t') h (record { by = f })
 
 -- A CALL of one phrase: s, and then the end
 pub record Calls (call s : Symbol) : Type 0 where
@@ -69,8 +75,8 @@ module _ {call s : Symbol} (law : Calls call s) (src : Text) {ws t : List ℕ} (
   abbrev all : Outcome
   all = reads call allowance (from src ws 0) fresh
 
-  pub whole_bad : {u : Refusal} → y ≡ Err u → MeetsWhole all t (Err u) t'
-  whole_bad z = record { by = fails (law.begins src ws g.inside) (failed_of z v) }
+  pub whole_bad : {u : Refusal} → y ≡ Err u → Failed all u
+  whole_bad z = fails (law.begins src ws g.inside) (failed_of z v)
 
   module _ {m : Node} (z : y ≡ Ok m) where
     phrase : Took (reads s allowance (from src ws 0) fresh) src ws t 0 m t'
@@ -82,20 +88,30 @@ module _ {call s : Symbol} (law : Calls call s) (src : Text) {ws t : List ℕ} (
     pub whole_inside : m.at.0 < size ws
     whole_inside = phrase.inside
 
-    module _ {y₁ : Result TokenPos Refusal} (v₁ : ExpectsEof ws m.at.0 y₁) where
-      pub whole_more : {u : Refusal} → y₁ ≡ Err u → MeetsWhole all t (Err u) t'
-      whole_more e = let w = more_of e v₁ in record { by = lack (bring (law.begins src ws g.inside) law.heedless phrase.gave) tt g.closed whole_inside (not_one (code Eof) w.0) tt w.1 }
+    -- a token after the end, or the end
+    more : {u : Refusal} → (kind_at ws m.at.0 ≡ code Eof → ⊥) × (u ≡ err_at ws m.at.0 (refusal_code token_after_the_end) 0)
+        → MeetsWhole all t (Err u) t'
+    more w =
+        record { by = lack (bring (law.begins src ws g.inside) law.heedless phrase.gave) tt g.closed whole_inside
+          (not_one (code Eof) w.0) tt w.1 }
 
-      pub whole_met : {p : TokenPos} → y₁ ≡ Ok p → MeetsWhole all t (Ok m) t'
-      whole_met e =
-          let w = (eof_of e v₁).0 in
-          record {
-            by = record {
-              acc = done;
-              gave = over (eat (bring (law.begins src ws g.inside) law.heedless phrase.gave) tt whole_inside (is_one (code Eof) w) refl) ∙ ap (λ (ts : List Tok). left done ts) (nothing_behind src ws g.closed whole_inside w);
-              laid = phrase.laid;
-            };
-          }
+    met : kind_at ws m.at.0 ≡ code Eof → MeetsWhole all t (Ok m) t'
+    met w =
+        record {
+          by = record {
+            acc = done;
+            gave = over (eat (bring (law.begins src ws g.inside) law.heedless phrase.gave) tt whole_inside (is_one (code Eof) w) refl)
+                ∙ ap (λ (ts : List Tok). left done ts) (nothing_behind src ws g.closed whole_inside w);
+            laid = phrase.laid;
+          };
+        }
+
+    ended : (r : Result Node Refusal) → End ws m r → MeetsWhole all t r t'
+    ended (Ok r) w = subst (λ (r : Node). MeetsWhole all t (Ok r) t') (sym w.1) (met w.0)
+    ended (Err u) w = more w
+
+    pub whole_ends : {r : Result Node Refusal} → Ends ws m r → MeetsWhole all t r t'
+    whole_ends {r} w = ended r w.by
 
 -- A TYPE that the first closer of a `>>` closed: the second is a token behind the end
 pub type_halved : (src : Text) {ws t : List ℕ} → Ready ws 0 0 → {m : Node} {t' : List ℕ}

@@ -9,7 +9,7 @@ use Rattle.quanta_cursor.specs.declared.parser.Span.{Span}
 use Rattle.quanta_cursor.specs.Tokens.{from, Ready}
 use Rattle.quanta_cursor.specs.Tree.{Laid}
 use Rattle.quanta_cursor.specs.Answers.{Failed}
-use Rattle.quanta_parser.specs.declared.program.Run.{Run}
+use Rattle.quanta_cursor.specs.declared.parser.Run.{Run}
 use Rattle.quanta_grammar.specs.Refine.{Text}
 use Rattle.quanta_cursor.specs.declared.parser.Refusal.{Refusal}
 

@@ -14,21 +14,12 @@ ghost use Rattle.quanta_grammar.specs.Refine.{Text, text};
 
 use quanta_cursor::node;
 use quanta_cursor::parser::{
-    Node, Nodes, Record, RecordNo, Refusal, Span, TokenPos, bump, close, close_semi, expect,
+    Node, Nodes, Record, RecordNo, Refusal, Run, Span, TokenPos, bump, close, close_semi, expect,
     expect_ident, expect_import_name, expect_str, peek, peek_span,
 };
 use quanta_item::decl::contract_item;
 use quanta_token::edition::Edition;
 use quanta_token::token;
-
-// Imports or contracts one after the other: the next token, the next record, how many, and the last one's span.
-#[derive(Clone, Copy)]
-pub struct Run {
-    pub at: TokenPos,
-    pub no: RecordNo,
-    pub count: u32,
-    pub span: Span,
-}
 
 // The imports of a program, and `span` where there is none.
 pub fn imports(
@@ -46,21 +37,17 @@ pub fn imports(
     let mut span = span;
     let mut count: u32 = 0;
     while peek(tokens, at) == token::IMPORT {
-        match import_decl(tokens, tree, at, no) {
-            Err(e) => return Err(e),
-            Ok(import) => {
-                at = import.at;
-                no = import.no;
-                span = import.span;
-                count += 1;
-            }
-        }
+        let import = import_decl(tokens, tree, at, no)?;
+        at = import.at;
+        no = import.no;
+        span = import.span;
+        count += 1;
     }
     Ok(Run {
-        at: at,
-        no: no,
-        count: count,
-        span: span,
+        at,
+        no,
+        count,
+        span,
     })
 }
 
@@ -83,21 +70,17 @@ pub fn contracts(
     let mut span = span;
     let mut count: u32 = 0;
     while peek(tokens, at) == token::CONTRACT {
-        match contract(edition, src, tokens, tree, at, no, allowance) {
-            Err(e) => return Err(e),
-            Ok(contract) => {
-                at = contract.at;
-                no = contract.no;
-                span = contract.span;
-                count += 1;
-            }
-        }
+        let contract = contract(edition, src, tokens, tree, at, no, allowance)?;
+        at = contract.at;
+        no = contract.no;
+        span = contract.span;
+        count += 1;
     }
     Ok(Run {
-        at: at,
-        no: no,
-        count: count,
-        span: span,
+        at,
+        no,
+        count,
+        span,
     })
 }
 
@@ -110,26 +93,12 @@ fn import_decl(
     requires { Ready tokens.now at.0 no.0 × (kind_at tokens.now at.0 ≡ code Import) }
     ensures { (src : Text) (a : ℕ) → Reads src import tokens.now at.0 no.0 a tree.old result tree.new }
 {
-    match expect(tokens, bump(at), token::LBRACE) {
-        Err(e) => Err(e),
-        Ok(inside) => match import_names(tokens, tree, inside, no) {
-            Err(e) => Err(e),
-            Ok(names) => {
-                let end = names.at;
-                let no = names.no;
-                match expect(tokens, end, token::RBRACE) {
-                    Err(e) => Err(e),
-                    Ok(from) => match expect(tokens, from, token::FROM) {
-                        Err(e) => Err(e),
-                        Ok(path) => match expect_str(tokens, tree, path, no) {
-                            Err(e) => Err(e),
-                            Ok(path) => { close_import(tokens, tree, at, names.count + 1, path) }
-                        },
-                    },
-                }
-            }
-        },
-    }
+    let inside = expect(tokens, bump(at), token::LBRACE)?;
+    let names = import_names(tokens, tree, inside, no)?;
+    let from = expect(tokens, names.at, token::RBRACE)?;
+    let behind = expect(tokens, from, token::FROM)?;
+    let path = expect_str(tokens, tree, behind, names.no)?;
+    close_import(tokens, tree, at, names.count + 1, path)
 }
 
 fn import_names(
@@ -141,31 +110,17 @@ fn import_names(
     requires { Ready tokens.now at.0 no.0 }
     ensures { WordList type_name more_imports tokens.now tree.old at.0 no.0 result tree.new }
 {
-    match expect_import_name(tokens, tree, at, no) {
-        Err(e) => Err(e),
-        Ok(first) => {
-            let mut at = first.at;
-            let mut no = first.no;
-            let mut count: u32 = 1;
-            loop {
-                if peek(tokens, at) != token::COMMA {
-                    return Ok(Nodes {
-                        at: at,
-                        no: no,
-                        count: count,
-                    });
-                }
-                match expect_import_name(tokens, tree, bump(at), no) {
-                    Err(e) => return Err(e),
-                    Ok(name) => {
-                        at = name.at;
-                        no = name.no;
-                        count += 1;
-                    }
-                }
-            }
-        }
+    let first = expect_import_name(tokens, tree, at, no)?;
+    let mut at = first.at;
+    let mut no = first.no;
+    let mut count: u32 = 1;
+    while peek(tokens, at) == token::COMMA {
+        let name = expect_import_name(tokens, tree, bump(at), no)?;
+        at = name.at;
+        no = name.no;
+        count += 1;
     }
+    Ok(Nodes { at, no, count })
 }
 
 // The `;` behind the path of the import whose keyword is the token at `own`.
@@ -179,22 +134,14 @@ fn close_import(
     requires { Ready tokens.now path.at.0 path.no.0 × (own.0 < size tokens.now) }
     ensures { Closes tokens.now tree.old (code Semi) path.at.0 path.no.0 (node_code import_node) 0 own.0 (span_at tokens.now own.0) count result tree.new }
 {
-    let at = path.at;
-    let no = path.no;
-    let span = peek_span(tokens, own);
-    close_semi(
-        tokens,
-        tree,
-        at,
-        no,
-        Record {
-            kind: node::IMPORT,
-            flag: 0,
-            own,
-            span,
-            children: count,
-        },
-    )
+    let rec = Record {
+        kind: node::IMPORT,
+        flag: 0,
+        own,
+        span: peek_span(tokens, own),
+        children: count,
+    };
+    close_semi(tokens, tree, path.at, path.no, rec)
 }
 
 fn contract(
@@ -209,22 +156,10 @@ fn contract(
     requires { Ready tokens.now at.0 no.0 × (kind_at tokens.now at.0 ≡ code Contract) }
     ensures { Reads (text edition src.now) contract tokens.now at.0 no.0 allowance tree.old result tree.new }
 {
-    match expect_ident(tokens, tree, bump(at), no) {
-        Err(e) => Err(e),
-        Ok(name) => {
-            let open = name.at;
-            let no = name.no;
-            match expect(tokens, open, token::LBRACE) {
-                Err(e) => Err(e),
-                Ok(inside) => {
-                    match items(edition, src, tokens, tree, inside, no, allowance) {
-                        Err(e) => Err(e),
-                        Ok(items) => close_contract(tokens, tree, at, items),
-                    }
-                }
-            }
-        }
-    }
+    let name = expect_ident(tokens, tree, bump(at), no)?;
+    let inside = expect(tokens, name.at, token::LBRACE)?;
+    let items = items(edition, src, tokens, tree, inside, name.no, allowance)?;
+    close_contract(tokens, tree, at, items)
 }
 
 fn items(
@@ -243,20 +178,12 @@ fn items(
     let mut no = no;
     let mut count: u32 = 0;
     while peek(tokens, at) != token::RBRACE && peek(tokens, at) != token::EOF {
-        match contract_item(edition, src, tokens, tree, at, no, allowance) {
-            Err(e) => return Err(e),
-            Ok(item) => {
-                at = item.at;
-                no = item.no;
-                count += 1;
-            }
-        }
+        let item = contract_item(edition, src, tokens, tree, at, no, allowance)?;
+        at = item.at;
+        no = item.no;
+        count += 1;
     }
-    Ok(Nodes {
-        at: at,
-        no: no,
-        count: count,
-    })
+    Ok(Nodes { at, no, count })
 }
 
 // The `}` behind the items of the contract whose keyword is the token at `own`.
@@ -269,21 +196,12 @@ fn close_contract(
     requires { Ready tokens.now items.at.0 items.no.0 × (own.0 < size tokens.now) × (items.count + 1 < 4294967296) }
     ensures { Closes tokens.now tree.old (code RBrace) items.at.0 items.no.0 (node_code contract_node) 0 own.0 (span_at tokens.now own.0) (items.count + 1) result tree.new }
 {
-    let at = items.at;
-    let no = items.no;
-    let span = peek_span(tokens, own);
-    close(
-        tokens,
-        tree,
-        token::RBRACE,
-        at,
-        no,
-        Record {
-            kind: node::CONTRACT,
-            flag: 0,
-            own,
-            span,
-            children: items.count + 1,
-        },
-    )
+    let rec = Record {
+        kind: node::CONTRACT,
+        flag: 0,
+        own,
+        span: peek_span(tokens, own),
+        children: items.count + 1,
+    };
+    close(tokens, tree, token::RBRACE, items.at, items.no, rec)
 }

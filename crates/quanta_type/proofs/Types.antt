@@ -35,7 +35,7 @@ use Rattle.quanta_cursor.specs.Answers.{single, Failed, Took}
 use Rattle.quanta_cursor.specs.Cursor.{joined, span_at, err_at, deep_at, leaf_rec, leaf_node, Words, close_rec}
 use Rattle.quanta_cursor.proofs.Sets.{fine_kind, plain_at_lem, is_in, not_in, is_one, not_one}
 use Rattle.quanta_cursor.proofs.Places.{past_as, laid_none, laid_word, laid_put}
-use Rattle.quanta_cursor.proofs.Exits.{handed}
+use Rattle.quanta_cursor.proofs.Exits.{exits}
 use Rattle.quanta_cursor.proofs.Nodes.{node_of, node_is, words_are}
 use Rattle.quanta_cursor.proofs.Meeting.{word_of, no_word_of, failed_onward}
 use Rattle.quanta_cursor.proofs.Doing.{Doing, picks, skips, begin, begin_paying, refuses_at, spent_before, eat, eat_fine, lack, bring, fails, last, over, ends}
@@ -199,7 +199,7 @@ module _ {o : Outcome} {src : Text} {ws t : List ℕ} {n : ℕ} {t' : List ℕ} 
   type_failed f = record { by = f }
 
   pub type_fails : {r : Result (Typed Node) Refusal} {e : Refusal} → IsErrAnd r (λ y. y ≡ e) → Failed o e → MeetsType o src ws t n r t'
-  type_fails h f = subst (λ (r : Result (Typed Node) Refusal). MeetsType o src ws t n r t') (sym (handed h)) (type_failed f)
+  type_fails h f = exits (λ r. MeetsType o src ws t n r t') h (type_failed f)
 
   pub typed_of : {r : Result (Typed Node) Refusal} {m : Node} → r ≡ Ok (Whole m) → MeetsType o src ws t n r t' → Took o src ws t n m t'
   typed_of z m = subst (λ (r : Result (Typed Node) Refusal). AnswersType o src ws t n r t') z m.by

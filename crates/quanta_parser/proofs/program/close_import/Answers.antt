@@ -4,4 +4,4 @@ use Rattle.quanta_cursor.proofs.Under.{closes_as}
 use Rattle.quanta_parser.proofs.program.close_import.Goals as goal
 
 pub returns : goal.returns
-returns c = closes_as c.peek_span-span.ensures c.close_semi.ensures
+returns c = closes_as c.peek_span.ensures c.close_semi.ensures

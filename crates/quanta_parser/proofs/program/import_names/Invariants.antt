@@ -6,8 +6,10 @@ use Rattle.quanta_cursor.specs.Tokens.{size}
 use Rattle.quanta_cursor.proofs.Lists.{Rolling}
 use Rattle.quanta_parser.proofs.program.import_names.Given as goal
 
-abbrev pub invariant-loop-at : goal.invariant-loop-at
-invariant-loop-at l = (a : ℕ) → Rolling more_imports l.tokens a l.initial.at.0 l.initial.no.0 l.initial.count l.initial.tree l.at.0 l.no.0 l.count l.tree
+abbrev pub invariant-loop-tree : goal.invariant-loop-tree
+invariant-loop-tree l =
+    (a : ℕ) → Rolling more_imports l.tokens a l.initial.at.0 l.initial.no.0 l.initial.count l.initial.tree l.at.0
+      l.no.0 l.count l.tree
 
-abbrev pub decreases-loop-at : goal.decreases-loop-at
-decreases-loop-at l = size l.tokens - l.at.0
+abbrev pub decreases-loop-tree : goal.decreases-loop-tree
+decreases-loop-tree l = size l.tokens - l.at.0
