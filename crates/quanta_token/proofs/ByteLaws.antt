@@ -62,6 +62,10 @@ pub quote_class : (c : ℕ) → c < 256 → classed Quote c ≡ eqb c 0x22
 unfolding all agree class_of
 quote_class = equal (classed Quote) (λ c. eqb c 0x22) refl
 
+-- a byte of another class
+pub unlike : (k : ByteClass) (c : ℕ) (j : ByteClass) → j ≡ class_of c → (j ≡ k → ⊥) → classed k c ≡ false
+unlike k c j e n = false_same the_type (search rules) _ _ (λ z. n (e ∙ z))
+
 -- a word's byte is one of two classes
 pub word_in : (c : ℕ) (k : ByteClass) → c < 256 → k ≡ class_of c → (k ≡ WordStart) ⊎ (k ≡ Digit) → true ≡ word_byte c
 word_in c k l e (inl w) = rw (sym (word_start_class c l) ∙ true_same the_type _ _ (sym e ∙ w))
@@ -69,7 +73,4 @@ word_in c k l e (inr d) = rw (sym (digit_class c l) ∙ true_same the_type _ _ (
 
 pub word_out : (c : ℕ) (k : ByteClass) → c < 256 → k ≡ class_of c → (k ≡ WordStart → ⊥) → (k ≡ Digit → ⊥) → false ≡ word_byte c
 word_out c k l e w d =
-    rw (
-      sym (word_start_class c l) ∙ false_same the_type (search rules) _ _ (λ z. w (e ∙ z)),
-      sym (digit_class c l) ∙ false_same the_type (search rules) _ _ (λ z. d (e ∙ z)),
-    )
+    rw (sym (word_start_class c l) ∙ unlike WordStart c k e w, sym (digit_class c l) ∙ unlike Digit c k e d)

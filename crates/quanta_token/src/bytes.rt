@@ -76,6 +76,7 @@ fn class_of(c: u8) -> ByteClass
 }
 
 // The class of each of the 256 bytes.
+#[derive(Drop)]
 pub struct ByteChart {
     classes: [ByteClass; 256],
     ghost right: { Chart classes },
