@@ -11,22 +11,19 @@ use borrow.Author.Tests.{ltb-true, ltb-false}
 use Rattle.quanta_token.specs.declared.edition.Edition.{Edition}
 use Rattle.quanta_token.specs.declared.edition.Edition.TheVariants.{One, Two}
 use Rattle.utf8.specs.Utf8.{first_bad}
-use Rattle.utf8.specs.declared.Found.{Found}
-use Rattle.utf8.specs.declared.Found.TheVariants.{At, AllWell}
+use Rattle.std.specs.Prelude.{Option, Some, None, Result, Ok, Err}
 use Rattle.quanta_source.specs.Source.{checked}
-use Rattle.quanta_source.specs.declared.source.Checked.{Checked}
-use Rattle.quanta_source.specs.declared.source.Checked.TheVariants.{Clean, CarriageReturn, Barred}
+use Rattle.quanta_source.specs.declared.source.Fault.{Fault}
+use Rattle.quanta_source.specs.declared.source.Fault.TheVariants.{CarriageReturn, Barred}
 use Rattle.quanta_words.specs.Words.{bad_in}
 use Rattle.quanta_lexer.specs.Promise.{Lies, in_table, in_source, at_date}
 use Rattle.quanta_lexer.specs.Refusals.{long_source, not_utf8, bare_return, barred_character, other_byte, no_day}
 use Rattle.quanta_lexer.specs.Refusals.{source_limit, table_limit}
-use Rattle.quanta_lexer.specs.Tokens.{Ending, done, refused, Lexing, read_for, read_of, lex_all}
+use Rattle.quanta_lexer.specs.Tokens.{Ending, done, refused, Lexing, Read, read_for, read_of, lex_all}
 use Rattle.quanta_lexer.specs.Tokenizing.{or_else, well_or, clean_or, reading}
-use Rattle.quanta_lexer.specs.Tokenizing.{room_for, in_room, tokenizing, token_words}
-use Rattle.quanta_lexer.specs.declared.lexer.Answer.{Answer}
-use Rattle.quanta_lexer.specs.declared.lexer.Answer.TheVariants.{Accepted, Refused, Short}
-use Rattle.quanta_lexer.specs.declared.lexer.Read.{Read}
-use Rattle.quanta_lexer.specs.declared.lexer.Read.TheVariants.{Tokens, Stopped}
+use Rattle.quanta_lexer.specs.Tokenizing.{Answer, room_for, in_room, tokenizing, token_words}
+use Rattle.quanta_lexer.specs.declared.refusal.Failure.TheVariants.{Refused, Short}
+use Rattle.quanta_lexer.specs.declared.refusal.Refusal.{Refusal}
 use Rattle.quanta_lexer.specs.FirstNoDay.{AllDays, FirstNoDay}
 use Rattle.quanta_lexer.proofs.EditionLaws.{lex_both}
 use Rattle.quanta_lexer.proofs.PromiseLaws.{refused_inside}
@@ -38,8 +35,8 @@ module _ (ed : Edition) (s t : List ℕ) where
   Whole n = (length s ≤ source_limit) × ((lex_all ed s t).ending ≡ done) × (length (lex_all ed s t).toks ≡ n)
 
   abbrev Told : Read → Type 0
-  Told (Tokens n) = Whole n
-  Told (Stopped k a e) = Lies ed s t k a e
+  Told (Ok n) = Whole n
+  Told (Err r) = Lies ed s t r.number r.start r.end
 
   by_test : (b : Bool) (x y : Read) → (b ≡ true → Told x) → (b ≡ false → Told y) → Told (or_else b x y)
   unfolding or_else
@@ -51,16 +48,16 @@ module _ (ed : Edition) (s t : List ℕ) where
     byte : (k i : ℕ) → i < length s → long_source ≤ k → k ≤ other_byte → Lies ed s t k i (i + 1)
     byte k i h lo hi = in_source k i (i + 1) lo hi (omega arith) (omega arith) (omega arith)
 
-    by_bytes : (f : Found) (y : Read) → AtWithin (length s) f → Told y → Told (well_or f y)
+    by_bytes : (f : Option ℕ) (y : Read) → AtWithin (length s) f → Told y → Told (well_or f y)
     unfolding well_or
-    by_bytes (At i) y h g = byte not_utf8 i h (omega arith) (omega arith)
-    by_bytes AllWell y h g = g
+    by_bytes (Some i) y h g = byte not_utf8 i h (omega arith) (omega arith)
+    by_bytes None y h g = g
 
-    by_source : (f : Checked) (y : Read) → FaultWithin (length s + 0) f → Told y → Told (clean_or f y)
+    by_source : (f : Result Unit Fault) (y : Read) → FaultWithin (length s + 0) f → Told y → Told (clean_or f y)
     unfolding clean_or
-    by_source (CarriageReturn i) y h g = byte bare_return i (omega arith) (omega arith) (omega arith)
-    by_source (Barred i) y h g = byte barred_character i (omega arith) (omega arith) (omega arith)
-    by_source Clean y h g = g
+    by_source (Err (CarriageReturn i)) y h g = byte bare_return i (omega arith) (omega arith) (omega arith)
+    by_source (Err (Barred i)) y h g = byte barred_character i (omega arith) (omega arith) (omega arith)
+    by_source (Ok u) y h g = g
 
     by_tokens : Told (read_of (lex_all ed s t))
     unfolding read_of
@@ -93,17 +90,17 @@ module _ (ed : Edition) (s t : List ℕ) where
 
   module _ (words : ℕ) where
     abbrev pub Said : Answer → Type 0
-    Said (Accepted n) = Whole n × (n ≤ words / 3)
-    Said (Short n) = Whole n × (words / 3 < n)
-    Said (Refused k a e) = Lies ed s t k a e
+    Said (Ok n) = Whole n × (n ≤ words / 3)
+    Said (Err (Short n)) = Whole n × (words / 3 < n)
+    Said (Err (Refused r)) = Lies ed s t r.number r.start r.end
 
     pub said : Said (tokenizing ed s t words)
     unfolding tokenizing
     said = at (reading ed s t) told
       where
         at : (x : Read) → Told x → Said (in_room words x)
-        at (Stopped k a e) h = h
-        at (Tokens n) h = room (ltb (words / 3) n) refl
+        at (Err r) h = h
+        at (Ok n) h = room (ltb (words / 3) n) refl
           where
             room : (b : Bool) → ltb (words / 3) n ≡ b → Said (room_for b n)
             room true e = (h, ltb-true _ _ e)
@@ -116,17 +113,17 @@ lies_small (at_date a e d w h l) = (omega arith, omega arith)
 
 -- a refusal does not depend on the room
 pub any_room :
-    (ed : Edition) (s t : List ℕ) (words w : ℕ) {k a e : ℕ} →
-    tokenizing ed s t words ≡ Refused k a e →
-    tokenizing ed s t w ≡ Refused k a e
+    (ed : Edition) (s t : List ℕ) (words w : ℕ) {f : Refusal} →
+    tokenizing ed s t words ≡ Err (Refused f) →
+    tokenizing ed s t w ≡ Err (Refused f)
 unfolding tokenizing
 any_room ed s t words w h = at (reading ed s t) h
   where
-    at : {k a e : ℕ} (r : Read) → in_room words r ≡ Refused k a e → in_room w r ≡ Refused k a e
-    at (Stopped k a e) h = h
-    at (Tokens n) h = absurd (room (ltb (words / 3) n) h)
+    at : {f : Refusal} (r : Read) → in_room words r ≡ Err (Refused f) → in_room w r ≡ Err (Refused f)
+    at (Err r) h = h
+    at (Ok n) h = absurd (room (ltb (words / 3) n) h)
       where
-        room : {k a e : ℕ} (b : Bool) → room_for b n ≡ Refused k a e → ⊥
+        room : {f : Refusal} (b : Bool) → room_for b n ≡ Err (Refused f) → ⊥
         room true h = let z : ◌≡◌ {A = ℕ} 0 1 = cc in omega arith
         room false h = let z : ◌≡◌ {A = ℕ} 0 1 = cc in omega arith
 

@@ -17,12 +17,11 @@ use Rattle.quanta_token.specs.declared.edition.Edition.TheVariants.{One, Two}
 use Rattle.quanta_token.proofs.BoolLaws.{both}
 use Rattle.quanta_lexer.specs.Days.{day_at}
 use Rattle.quanta_lexer.specs.FirstNoDay.{AllDays, FirstNoDay}
-use Rattle.quanta_lexer.specs.Refusals.{no_day}
-use Rattle.quanta_lexer.specs.Scan.{pos, choose, word_at, date_at, number_at, string_at, symbol_at, token_at}
+use Rattle.quanta_lexer.specs.Refusals.{refusal, no_day}
+use Rattle.quanta_lexer.specs.Scan.{Lexed, token, choose, word_at, date_at, number_at, string_at, symbol_at, token_at}
 use Rattle.quanta_lexer.specs.Tokens.{Tok, tok, refused, Lexing, go_on, lex_from, lex_all}
 use Rattle.quanta_lexer.specs.Trivia.{trivia_end}
-use Rattle.quanta_lexer.specs.declared.scan.Lexed.{Lexed}
-use Rattle.quanta_lexer.specs.declared.scan.Lexed.TheVariants.{Token, End, Refused}
+use Rattle.std.specs.Prelude.{Some, None, Ok, Err}
 
 -- none of the texts spells a Date
 dateless : List Spelled → Bool
@@ -65,16 +64,16 @@ single_no_date c = no_date_in singles (c ∷ []) no_kind refl (λ h. omega arith
 
 -- a Date is a day
 abbrev DayIf : List ℕ → Lexed → Type 0
-DayIf s (Token k a e) = k ≡ code Date → day_at s (a.0 + 1) ≡ true
-DayIf s End = Unit
-DayIf s (Refused n a e) = Unit
+DayIf s (Ok (Some x)) = x.kind ≡ code Date → day_at s (x.start.0 + 1) ≡ true
+DayIf s (Ok None) = Unit
+DayIf s (Err r) = Unit
 
 -- a Date at i, and its refusal
 abbrev date_from : ℕ → Lexed
-date_from i = Token (code Date) (pos i) (pos (i + 11))
+date_from i = Ok (Some (token (code Date) i (i + 11)))
 
 abbrev no_day_from : ℕ → Lexed
-no_day_from i = Refused no_day (pos i) (pos (i + 11))
+no_day_from i = Err (refusal no_day i (i + 11))
 
 -- what edition 1 and edition 2 find at i: the same, any Date of it a day; or a Date that is no day, and 28
 data Both (s : List ℕ) (i : ℕ) : Lexed → Lexed → Type 0 where
@@ -127,7 +126,7 @@ module _ (s : List ℕ) (i : ℕ) where
       (either (word_start (get_or s i 0)) (alike (word_at s t i) (word_day t))
       (either (digit (get_or s i 0)) (alike (number_at s i) number_day)
       (either (eqb (get_or s i 0) 0x22) (alike (string_at s i) string_day) symbol_both)))
-      (alike End tt)
+      (alike (Ok None) tt)
 
 -- the second reading is the first, whose Dates are days; or it stops at the first that is none
 abbrev Reads : List ℕ → Lexing → Lexing → Type 0
@@ -143,28 +142,28 @@ turn :
     (i : ℕ) (x y : Lexed) →
     Both s i x y →
     Reads s (go_on one i x) (go_on two i y)
-turn s one two ih i _ _ (alike (Token k a e) d) = ⊎_elim same later (ih e.0)
+turn s one two ih i _ _ (alike (Ok (Some x)) d) = ⊎_elim same later (ih x.end.0)
   where
     same :
-        AllDays s (one e.0).toks × (two e.0 ≡ one e.0) →
-        Reads s (go_on one i (Token k a e)) (go_on two i (Token k a e))
-    same p = inl ((d, p.0), ap (after (tok k a.0 e.0)) p.1)
+        AllDays s (one x.end.0).toks × (two x.end.0 ≡ one x.end.0) →
+        Reads s (go_on one i (Ok (Some x))) (go_on two i (Ok (Some x)))
+    same p = inl ((d, p.0), ap (after (tok x.kind x.start.0 x.end.0)) p.1)
 
-    later : FirstNoDay s (one e.0) (two e.0) → Reads s (go_on one i (Token k a e)) (go_on two i (Token k a e))
+    later : FirstNoDay s (one x.end.0) (two x.end.0) → Reads s (go_on one i (Ok (Some x))) (go_on two i (Ok (Some x)))
     later f =
         inr
         (record {
-          before = tok k a.0 e.0 ∷ f.before;
+          before = tok x.kind x.start.0 x.end.0 ∷ f.before;
           start = f.start;
           stop = f.stop;
           behind = f.behind;
-          stands = ap (λ (ts : List Tok). tok k a.0 e.0 ∷ ts) f.stands;
+          stands = ap (λ (ts : List Tok). tok x.kind x.start.0 x.end.0 ∷ ts) f.stands;
           days = (d, f.days);
           is_no_day = f.is_no_day;
-          stops = ap (after (tok k a.0 e.0)) f.stops;
+          stops = ap (after (tok x.kind x.start.0 x.end.0)) f.stops;
         })
-turn s one two ih i _ _ (alike End d) = inl (((λ h. absurd (omega arith)), tt), refl)
-turn s one two ih i _ _ (alike (Refused k a e) d) = inl (tt, refl)
+turn s one two ih i _ _ (alike (Ok None) d) = inl (((λ h. absurd (omega arith)), tt), refl)
+turn s one two ih i _ _ (alike (Err r) d) = inl (tt, refl)
 turn s one two ih i _ _ (apart h) =
     inr
     (record {

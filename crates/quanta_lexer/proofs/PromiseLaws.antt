@@ -8,11 +8,10 @@ use Rattle.quanta_token.specs.declared.edition.Edition.{Edition}
 use Rattle.quanta_token.specs.TokenKind.{code, Ident, Eof}
 use Rattle.quanta_lexer.specs.Promise.{InOrder, eof, more, Promised}
 use Rattle.quanta_lexer.specs.Refusals.{source_limit}
-use Rattle.quanta_lexer.specs.Scan.{token_at}
+use Rattle.quanta_lexer.specs.Scan.{Lexed, token_at}
 use Rattle.quanta_lexer.specs.Tokens.{Tok, tok, Ending, done, refused, go_on, lex_from, lex_all}
 use Rattle.quanta_lexer.specs.Trivia.{trivia_end}
-use Rattle.quanta_lexer.specs.declared.scan.Lexed.{Lexed}
-use Rattle.quanta_lexer.specs.declared.scan.Lexed.TheVariants.{Token, End, Refused}
+use Rattle.std.specs.Prelude.{Some, None, Ok, Err}
 use Rattle.quanta_lexer.proofs.ScanLaws.{Numbered, StandsAt, token_stands}
 use Rattle.quanta_lexer.proofs.TriviaLaws.{skip_bounds}
 
@@ -48,12 +47,13 @@ module _ (ed : Edition) (s t : List ℕ) where
           (x : Lexed) →
           StandsAt ed s (trivia_end s i) x →
           let l = go_on (λ j. lex_from ed n s t j) (trivia_end s i) x in Ends ed (length s) i l.toks l.ending
-      at ih (Token k a e) w =
-          before ed (length s) i k a.0 e.0 (lex_from ed n s t e.0).toks (lex_from ed n s t e.0).ending
+      at ih (Ok (Some x)) w =
+          let e = x.end.0 in
+          before ed (length s) i x.kind x.start.0 e (lex_from ed n s t e).toks (lex_from ed n s t e).ending
           (w.3, w.4, omega (arith, b, w), omega (arith, w), w.2)
-          (ih e.0 w.2 (omega (arith, b, w)))
-      at ih End w = eof (trivia_end s i) b.0 b.1
-      at ih (Refused k a e) w = (w.3, omega (arith, w), w.2)
+          (ih e w.2 (omega (arith, b, w)))
+      at ih (Ok None) w = eof (trivia_end s i) b.0 b.1
+      at ih (Err r) w = (w.3, omega (arith, w), w.2)
 
   all_ends : Ends ed (length s) 0 (lex_all ed s t).toks (lex_all ed s t).ending
   unfolding lex_all

@@ -21,18 +21,18 @@ use Rattle.quanta_token.specs.declared.bytes.Run.TheVariants.{Word, Number, Quot
 use Rattle.quanta_token.proofs.BoolLaws.{both}
 use Rattle.quanta_token.proofs.RunLaws.{end_more, end_from, end_within, end_bounds}
 use Rattle.quanta_lexer.specs.Refusals.{barred_word, other_byte, no_day}
-use Rattle.quanta_lexer.specs.Scan.{choose, word_at, date_at, number_at, string_at, dated, symbol_at, token_at}
-use Rattle.quanta_lexer.specs.declared.scan.Lexed.{Lexed}
-use Rattle.quanta_lexer.specs.declared.scan.Lexed.TheVariants.{Token, End, Refused}
+use Rattle.quanta_lexer.specs.Scan.{Lexed, choose, word_at, date_at, number_at, string_at, dated, symbol_at, token_at}
+use Rattle.std.specs.Prelude.{Some, None, Ok, Err}
 
 -- the number of a failing token: 6 to 10, or 28 in edition 2, for the 11 bytes of a Date
 abbrev pub Numbered : Edition → ℕ → ℕ → ℕ → Type 0
 Numbered ed n a e = ((barred_word ≤ n) × (n ≤ other_byte)) ⊎ ((ed ≡ Two) × (n ≡ no_day) × (e ≡ a + 11))
 
 abbrev pub StandsAt : Edition → List ℕ → ℕ → Lexed → Type 0
-StandsAt ed s i (Token k a e) = (a.0 ≡ i) × (i < e.0) × (e.0 ≤ length s) × (code Ident ≤ k) × (k < code Eof)
-StandsAt ed s i End = Unit
-StandsAt ed s i (Refused n a e) = (a.0 ≡ i) × (i < e.0) × (e.0 ≤ length s) × Numbered ed n a.0 e.0
+StandsAt ed s i (Ok (Some x)) =
+    (x.start.0 ≡ i) × (i < x.end.0) × (x.end.0 ≤ length s) × (code Ident ≤ x.kind) × (x.kind < code Eof)
+StandsAt ed s i (Ok None) = Unit
+StandsAt ed s i (Err r) = (r.start ≡ i) × (i < r.end) × (r.end ≤ length s) × Numbered ed r.number r.start r.end
 
 -- the kinds that the texts spell are numbered from lo on, below Eof
 kinds : ℕ → List Spelled → Bool

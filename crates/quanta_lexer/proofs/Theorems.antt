@@ -7,6 +7,7 @@ use mathlib.Core.Logic.{◌⊎◌}
 use native.Mathlib.Omega.{arith}
 use lib.ListN.{length, get_or, replicate}
 use lib.Dec.{eqb}
+use Rattle.std.specs.Prelude.{Some, Ok, Err}
 use Rattle.quanta_token.specs.Symbols.{no_kind, pair_kind, single_kind}
 use Rattle.quanta_token.specs.TokenKind.{code, Date}
 use Rattle.quanta_token.specs.declared.edition.Edition.{Edition}
@@ -15,13 +16,12 @@ use Rattle.quanta_lexer.specs.Dates.{dates, read_all, told_all}
 use Rattle.quanta_lexer.specs.Days.{leap_year, day_at}
 use Rattle.quanta_lexer.specs.FirstNoDay.{AllDays, FirstNoDay}
 use Rattle.quanta_lexer.specs.Promise.{Promised, Lies}
-use Rattle.quanta_lexer.specs.Refusals.{other_byte, no_day, source_limit}
-use Rattle.quanta_lexer.specs.Scan.{pos, choose, date_at, symbol_at}
+use Rattle.quanta_lexer.specs.Refusals.{refusal, other_byte, no_day, source_limit}
+use Rattle.quanta_lexer.specs.Scan.{token, choose, date_at, symbol_at}
 use Rattle.quanta_lexer.specs.Tokens.{Tok, tok, refused, records, lex_all}
 use Rattle.quanta_lexer.specs.Tokenizing.{tokenizing, token_words}
 use Rattle.quanta_lexer.specs.Years.{year_days, days_of, leaps_of}
-use Rattle.quanta_lexer.specs.declared.lexer.Answer.TheVariants.{Accepted, Refused, Short}
-use Rattle.quanta_lexer.specs.declared.scan.Lexed.TheVariants as lexed
+use Rattle.quanta_lexer.specs.declared.refusal.Failure.TheVariants.{Refused, Short}
 use Rattle.quanta_lexer.proofs.AnswerLaws.{Said, said, lies_small, lies_one, any_room}
 use Rattle.quanta_lexer.proofs.AnswerLaws.{same_answer, same_words, ended_well}
 use Rattle.quanta_lexer.proofs.EditionLaws.{lex_both, same_if_days, stops_there}
@@ -31,57 +31,57 @@ use Rattle.quanta_lexer.proofs.YearLaws as years
 
 module _ (ed : Edition) (s t : List ℕ) (words : ℕ) where
   -- accepted: n tokens in order inside the source, Eof last and only there, at most bytes plus one; and there is room
-  pub accepted : (n : ℕ) → tokenizing ed s t words ≡ Accepted n → Promised s (lex_all ed s t).toks n × (n ≤ words / 3)
+  pub accepted : (n : ℕ) → tokenizing ed s t words ≡ Ok n → Promised s (lex_all ed s t).toks n × (n ≤ words / 3)
   accepted n h =
-      let q : Said ed s t words (Accepted n) = rw h at (said ed s t words) in
+      let q : Said ed s t words (Ok n) = rw h at (said ed s t words) in
       (promised ed s t n q.0.0 q.0.1 q.0.2, q.1)
 
   -- 11: so many tokens, in order inside the source, and less room
-  pub short : (n : ℕ) → tokenizing ed s t words ≡ Short n → Promised s (lex_all ed s t).toks n × (words / 3 < n)
+  pub short : (n : ℕ) → tokenizing ed s t words ≡ Err (Short n) → Promised s (lex_all ed s t).toks n × (words / 3 < n)
   short n h =
-      let q : Said ed s t words (Short n) = rw h at (said ed s t words) in
+      let q : Said ed s t words (Err (Short n)) = rw h at (said ed s t words) in
       (promised ed s t n q.0.0 q.0.1 q.0.2, q.1)
 
   -- 1 lies in the table, 2 to 10 and, in edition 2 only, 28 inside the source
-  pub refusals_lie : (k a e : ℕ) → tokenizing ed s t words ≡ Refused k a e → Lies ed s t k a e
-  refusals_lie k a e h = let q : Said ed s t words (Refused k a e) = rw h at (said ed s t words) in q
+  pub refusals_lie : (k a e : ℕ) → tokenizing ed s t words ≡ Err (Refused (refusal k a e)) → Lies ed s t k a e
+  refusals_lie k a e h = let q : Said ed s t words (Err (Refused (refusal k a e))) = rw h at (said ed s t words) in q
 
   -- the counts and offsets of an answer are at most the limit plus one
-  pub accepted_small : (n : ℕ) → tokenizing ed s t words ≡ Accepted n → n ≤ source_limit + 1
+  pub accepted_small : (n : ℕ) → tokenizing ed s t words ≡ Ok n → n ≤ source_limit + 1
   accepted_small n h = let p = (accepted n h).0 in omega (arith, p.few, p.limited)
 
-  pub short_small : (n : ℕ) → tokenizing ed s t words ≡ Short n → n ≤ source_limit + 1
+  pub short_small : (n : ℕ) → tokenizing ed s t words ≡ Err (Short n) → n ≤ source_limit + 1
   short_small n h = let p = (short n h).0 in omega (arith, p.few, p.limited)
 
-  pub refusals_small : (k a e : ℕ) → tokenizing ed s t words ≡ Refused k a e → (a ≤ source_limit) × (e ≤ source_limit)
+  pub refusals_small : (k a e : ℕ) → tokenizing ed s t words ≡ Err (Refused (refusal k a e)) → (a ≤ source_limit) × (e ≤ source_limit)
   refusals_small k a e h = lies_small (refusals_lie k a e h)
 
   -- records at the front, zeros behind
   pub records_then_zeros :
       (n : ℕ) →
-      tokenizing ed s t words ≡ Accepted n →
+      tokenizing ed s t words ≡ Ok n →
       token_words ed s t words ≡ records (lex_all ed s t).toks ++ replicate (words - 3 * n) 0
   unfolding token_words
   records_then_zeros n h = rw h
 
   -- after 1 to 10 and 28 all zero
   pub zeros_after_refusal :
-      (k a e : ℕ) → tokenizing ed s t words ≡ Refused k a e → token_words ed s t words ≡ replicate words 0
+      (k a e : ℕ) → tokenizing ed s t words ≡ Err (Refused (refusal k a e)) → token_words ed s t words ≡ replicate words 0
   unfolding token_words
   zeros_after_refusal k a e h = rw h
 
   -- 1 to 10 and 28 come before 11: they are the same in any room
   pub refused_in_any_room :
-      (k a e : ℕ) → tokenizing ed s t words ≡ Refused k a e → (w : ℕ) → tokenizing ed s t w ≡ Refused k a e
+      (k a e : ℕ) → tokenizing ed s t words ≡ Err (Refused (refusal k a e)) → (w : ℕ) → tokenizing ed s t w ≡ Err (Refused (refusal k a e))
   refused_in_any_room k a e h w = any_room ed s t words w h
 
   -- after 11 all zero
-  pub zeros_after_short : (n : ℕ) → tokenizing ed s t words ≡ Short n → token_words ed s t words ≡ replicate words 0
+  pub zeros_after_short : (n : ℕ) → tokenizing ed s t words ≡ Err (Short n) → token_words ed s t words ≡ replicate words 0
   unfolding token_words
   zeros_after_short n h = rw h
 
   -- a record for each byte and one more is room enough
-  pub room_enough : (n : ℕ) → 3 * (length s + 1) ≤ words → tokenizing ed s t words ≡ Short n → ⊥
+  pub room_enough : (n : ℕ) → 3 * (length s + 1) ≤ words → tokenizing ed s t words ≡ Err (Short n) → ⊥
   room_enough n r h = let p = short n h in let f = p.0.few in omega (arith, p.1)
 
 -- edition 1 reads symbols as before there were editions: `@` before a date shape makes a Date
@@ -90,10 +90,10 @@ pub edition_one :
     let two = pair_kind (get_or s i 0) (get_or s (i + 1) 0) in
     let one = single_kind (get_or s i 0) in
     symbol_at One s i ≡
-    choose (eqb (get_or s i 0) 0x40 && date_at s (i + 1)) (lexed.Token (code Date) (pos i) (pos (i + 11)))
-    (choose (not (eqb two no_kind)) (lexed.Token two (pos i) (pos (i + 2)))
-    (choose (not (eqb one no_kind)) (lexed.Token one (pos i) (pos (i + 1)))
-    (lexed.Refused other_byte (pos i) (pos (i + 1)))))
+    choose (eqb (get_or s i 0) 0x40 && date_at s (i + 1)) (Ok (Some (token (code Date) i (i + 11))))
+    (choose (not (eqb two no_kind)) (Ok (Some (token two i (i + 2))))
+    (choose (not (eqb one no_kind)) (Ok (Some (token one i (i + 1))))
+    (Err (refusal other_byte i (i + 1)))))
 unfolding symbol_at choose
 edition_one s i = refl
 
@@ -127,14 +127,14 @@ module _ (s t : List ℕ) where
     -- what edition 2 accepts has only days for Dates, and edition 1 reads the same
     pub accepted_days :
         (n : ℕ) →
-        tokenizing Two s t words ≡ Accepted n →
+        tokenizing Two s t words ≡ Ok n →
         AllDays s (lex_all One s t).toks × (lex_all Two s t ≡ lex_all One s t)
     accepted_days n h =
-        let q : Said Two s t words (Accepted n) = rw h at (said Two s t words) in
+        let q : Said Two s t words (Ok n) = rw h at (said Two s t words) in
         ended_well s t q.0.1
 
     -- edition 1 never refuses by 28
-    pub no_28_in_one : (a e : ℕ) → tokenizing One s t words ≡ Refused no_day a e → ⊥
+    pub no_28_in_one : (a e : ℕ) → tokenizing One s t words ≡ Err (Refused (refusal no_day a e)) → ⊥
     no_28_in_one a e h = lies_one (refusals_lie One s t words no_day a e h) refl
 
 -- a year has 365 days, and a leap year 366

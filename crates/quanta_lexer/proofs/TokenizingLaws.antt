@@ -10,23 +10,21 @@ use lib.Dec.{ltb, eqb}
 use borrow.Author.Tests.{lt-ltb, le-ltb, ltb-true}
 use Rattle.quanta_token.specs.declared.edition.Edition.{Edition}
 use Rattle.utf8.specs.Utf8.{char_len, bad_from}
-use Rattle.utf8.specs.declared.Found.{Found}
-use Rattle.utf8.specs.declared.Found.TheVariants.{At, AllWell}
+use Rattle.std.specs.Prelude.{Option, Some, None, Result, Ok, Err}
 use Rattle.quanta_source.specs.Source.{bare_at, barred_at, check_from, checked}
-use Rattle.quanta_source.specs.declared.source.Checked.{Checked}
-use Rattle.quanta_source.specs.declared.source.Checked.TheVariants.{Clean, CarriageReturn, Barred}
-use Rattle.quanta_lexer.specs.Tokens.{Tok, Ending, done, refused, Lexing, records, put, read_for, read_of, lex_all}
-use Rattle.quanta_lexer.specs.Refusals.{bad_table, table_limit}
+use Rattle.quanta_source.specs.declared.source.Fault.{Fault}
+use Rattle.quanta_source.specs.declared.source.Fault.TheVariants.{CarriageReturn, Barred}
+use Rattle.quanta_lexer.specs.Tokens.{Tok, Ending, done, refused, Lexing, records, put, Read, read_for, read_of, lex_all}
+use Rattle.quanta_lexer.specs.Refusals.{refusal, bad_table, table_limit}
 use Rattle.quanta_lexer.specs.Tokenizing.{reading, or_else, Written, tokenizing, token_words}
 use Rattle.quanta_lexer.proofs.TokensLaws.{length_put}
-use Rattle.quanta_lexer.specs.declared.lexer.Answer.TheVariants.{Accepted, Refused, Short}
-use Rattle.quanta_lexer.specs.declared.lexer.Read.{Read}
-use Rattle.quanta_lexer.specs.declared.lexer.Read.TheVariants.{Tokens, Stopped}
+use Rattle.quanta_lexer.specs.declared.refusal.Failure.TheVariants.{Refused, Short}
+use Rattle.quanta_lexer.specs.declared.refusal.Refusal.{Refusal}
 
 -- where no sequence starts a byte stands
-abbrev pub AtWithin : ℕ → Found → Type 0
-AtWithin l (At k) = k < l
-AtWithin l AllWell = Unit
+abbrev pub AtWithin : ℕ → Option ℕ → Type 0
+AtWithin l (Some k) = k < l
+AtWithin l None = Unit
 
 pub bad_within : (n : ℕ) (s : List ℕ) (i : ℕ) → AtWithin (length s) (bad_from n s i)
 unfolding bad_from
@@ -37,37 +35,37 @@ bad_within (suc n) s i = at (ltb i (length s)) refl (bad_within n s (i + char_le
         (b : Bool) →
         ltb i (length s) ≡ b →
         AtWithin (length s) (bad_from n s (i + char_len s i)) →
-        AtWithin (length s) (cond b (cond (eqb (char_len s i) 0) (At i) (bad_from n s (i + char_len s i))) AllWell)
+        AtWithin (length s) (cond b (cond (eqb (char_len s i) 0) (Some i) (bad_from n s (i + char_len s i))) None)
     at false h ih = tt
     at true h ih = by (eqb (char_len s i) 0)
       where
-        by : (b : Bool) → AtWithin (length s) (cond b (At i) (bad_from n s (i + char_len s i)))
+        by : (b : Bool) → AtWithin (length s) (cond b (Some i) (bad_from n s (i + char_len s i)))
         by true = ltb-true _ _ h
         by false = ih
 
-pub bad_place : (s : List ℕ) (k : ℕ) → bad_from (length s) s 0 ≡ At k → k < length s
+pub bad_place : (s : List ℕ) (k : ℕ) → bad_from (length s) s 0 ≡ Some k → k < length s
 bad_place s k h = rw h at (bad_within (length s) s 0)
 
 -- a byte at fault stands within the source
-abbrev pub FaultWithin : ℕ → Checked → Type 0
-FaultWithin l (CarriageReturn k) = k < l
-FaultWithin l (Barred k) = k < l
-FaultWithin l Clean = Unit
+abbrev pub FaultWithin : ℕ → Result Unit Fault → Type 0
+FaultWithin l (Err (CarriageReturn k)) = k < l
+FaultWithin l (Err (Barred k)) = k < l
+FaultWithin l (Ok u) = Unit
 
 fault_within : (n : ℕ) (s : List ℕ) (i : ℕ) → FaultWithin (n + i) (check_from n s i)
 unfolding check_from
 fault_within zero s i = tt
 fault_within (suc n) s i = at (bare_at s i) (barred_at s i) (later (check_from n s (i + 1)) (fault_within n s (i + 1)))
   where
-    later : (x : Checked) → FaultWithin (n + (i + 1)) x → FaultWithin (suc n + i) x
-    later (CarriageReturn k) h = omega arith
-    later (Barred k) h = omega arith
-    later Clean h = tt
+    later : (x : Result Unit Fault) → FaultWithin (n + (i + 1)) x → FaultWithin (suc n + i) x
+    later (Err (CarriageReturn k)) h = omega arith
+    later (Err (Barred k)) h = omega arith
+    later (Ok u) h = tt
 
     at :
         (b c : Bool) →
         FaultWithin (suc n + i) (check_from n s (i + 1)) →
-        FaultWithin (suc n + i) (cond b (CarriageReturn i) (cond c (Barred i) (check_from n s (i + 1))))
+        FaultWithin (suc n + i) (cond b (Err (CarriageReturn i)) (cond c (Err (Barred i)) (check_from n s (i + 1))))
     at true c ih = omega arith
     at false true ih = omega arith
     at false false ih = ih
@@ -76,11 +74,11 @@ pub checked_within : (s : List ℕ) → FaultWithin (length s + 0) (checked s)
 unfolding checked
 checked_within s = fault_within (length s) s 0
 
-pub return_place : (s : List ℕ) (k : ℕ) → checked s ≡ CarriageReturn k → k < length s
-return_place s k h = let w : FaultWithin (length s + 0) (CarriageReturn k) = rw h at (checked_within s) in omega arith
+pub return_place : (s : List ℕ) (k : ℕ) → checked s ≡ Err (CarriageReturn k) → k < length s
+return_place s k h = let w : FaultWithin (length s + 0) (Err (CarriageReturn k)) = rw h at (checked_within s) in omega arith
 
-pub barred_place : (s : List ℕ) (k : ℕ) → checked s ≡ Barred k → k < length s
-barred_place s k h = let w : FaultWithin (length s + 0) (Barred k) = rw h at (checked_within s) in omega arith
+pub barred_place : (s : List ℕ) (k : ℕ) → checked s ≡ Err (Barred k) → k < length s
+barred_place s k h = let w : FaultWithin (length s + 0) (Err (Barred k)) = rw h at (checked_within s) in omega arith
 
 -- where tokens are counted their records are written
 pub written :
@@ -96,17 +94,17 @@ written l before after r e w = rw e (at l.ending)
     at (refused k a b) = tt
 
 pub unwritten :
-    (ts : List Tok) (before after : List ℕ) {r : Read} {k a b : ℕ} → r ≡ Stopped k a b → Written ts before after r
+    (ts : List Tok) (before after : List ℕ) {r : Read} {f : Refusal} → r ≡ Err f → Written ts before after r
 unwritten ts before after e = rw e tt
 
-pub stopped_unwritten : (ts : List Tok) (before after : List ℕ) (k a b : ℕ) → Written ts before after (Stopped k a b)
-stopped_unwritten ts before after k a b = tt
+pub stopped_unwritten : (ts : List Tok) (before after : List ℕ) (f : Refusal) → Written ts before after (Err f)
+stopped_unwritten ts before after f = tt
 
 -- a table that is too long is refused before anything else
 pub long_table :
     (ed : Edition) (s t : List ℕ) →
     table_limit < length t →
-    reading ed s t ≡ Stopped bad_table table_limit table_limit
+    reading ed s t ≡ Err (refusal bad_table table_limit table_limit)
 unfolding reading or_else
 long_table ed s t h = rw (lt-ltb _ _ h)
 
@@ -124,31 +122,31 @@ front (t ∷ ts) (x ∷ y ∷ z ∷ b) h =
     rw (three (length ts)) (ap (λ (l : List ℕ). t.kind ∷ t.start ∷ t.stop ∷ l) (front ts b (omega arith)))
 
 module _ (ed : Edition) (s t : List ℕ) (words : ℕ) (r : Read) (e : r ≡ reading ed s t) where
-  pub is_refused : (k a b : ℕ) → r ≡ Stopped k a b → Refused k a b ≡ tokenizing ed s t words
+  pub is_refused : (f : Refusal) → r ≡ Err f → Err (Refused f) ≡ tokenizing ed s t words
   unfolding tokenizing
-  is_refused k a b h = rw (← e, h)
+  is_refused f h = rw (← e, h)
 
-  pub is_short : (n : ℕ) → r ≡ Tokens n → words / 3 < n → Short n ≡ tokenizing ed s t words
+  pub is_short : (n : ℕ) → r ≡ Ok n → words / 3 < n → Err (Short n) ≡ tokenizing ed s t words
   unfolding tokenizing
   is_short n h l = rw (← e, h, lt-ltb (words / 3) n l)
 
-  pub is_accepted : (n : ℕ) → r ≡ Tokens n → n ≤ words / 3 → Accepted n ≡ tokenizing ed s t words
+  pub is_accepted : (n : ℕ) → r ≡ Ok n → n ≤ words / 3 → Ok n ≡ tokenizing ed s t words
   unfolding tokenizing
   is_accepted n h l = rw (← e, h, le-ltb (words / 3) n l)
 
 -- the buffer after each answer, where it had so many words
 pub words_refused :
-    (ed : Edition) (s t : List ℕ) (words k a b : ℕ) {n : ℕ} →
+    (ed : Edition) (s t : List ℕ) (words : ℕ) (f : Refusal) {n : ℕ} →
     n ≡ words →
-    Refused k a b ≡ tokenizing ed s t words →
+    Err (Refused f) ≡ tokenizing ed s t words →
     replicate n 0 ≡ token_words ed s t words
 unfolding token_words
-words_refused ed s t words k a b e r = rw (← r, e)
+words_refused ed s t words f e r = rw (← r, e)
 
 pub words_short :
     (ed : Edition) (s t : List ℕ) (words k : ℕ) {n : ℕ} →
     n ≡ words →
-    Short k ≡ tokenizing ed s t words →
+    Err (Short k) ≡ tokenizing ed s t words →
     replicate n 0 ≡ token_words ed s t words
 unfolding token_words
 words_short ed s t words k e r = rw (← r, e)
@@ -160,7 +158,7 @@ module _ (ed : Edition) (s t : List ℕ) (words n : ℕ) (b b' z : List ℕ) whe
       3 * n ≤ words →
       (n ≡ length (lex_all ed s t).toks) × (b' ≡ put (lex_all ed s t).toks b) →
       z ≡ replicate (length (take (length b' - 3 * n) (drop (3 * n) b'))) 0 →
-      Accepted n ≡ tokenizing ed s t words →
+      Ok n ≡ tokenizing ed s t words →
       take (3 * n) b' ++ (z ++ drop (length b' - 3 * n) (drop (3 * n) b')) ≡ token_words ed s t words
   unfolding token_words
   words_accepted l h w e r =

@@ -10,14 +10,13 @@ use borrow.Author.Tests.{le-leb, lt-leb, leb-true, leb-false}
 use Rattle.quanta_token.specs.declared.edition.Edition.{Edition}
 use Rattle.quanta_token.specs.TokenKind.{code, Eof}
 use Rattle.quanta_lexer.specs.Trivia.{trivia_end}
-use Rattle.quanta_lexer.specs.Scan.{token_at}
+use Rattle.quanta_lexer.specs.Scan.{Lexed, token_at}
 use Rattle.quanta_lexer.proofs.ScanLaws.{StandsAt, token_stands}
 use Rattle.quanta_lexer.specs.Tokens.{Tok, tok, done, refused, Lexing, lex_from, lex_all}
 use Rattle.quanta_lexer.specs.Tokens.{read_of, put, store}
-use Rattle.quanta_lexer.specs.declared.scan.BytePos.{BytePos}
-use Rattle.quanta_lexer.specs.declared.scan.Lexed.{Lexed}
-use Rattle.quanta_lexer.specs.declared.scan.Lexed.TheVariants.{Token, End, Refused}
-use Rattle.quanta_lexer.specs.declared.lexer.Read.TheVariants.{Tokens, Stopped}
+use Rattle.std.specs.Prelude.{Some, None, Ok, Err}
+use Rattle.quanta_lexer.specs.declared.refusal.Refusal.{Refusal}
+use Rattle.quanta_lexer.specs.declared.scan.Token.{Token}
 
 pub length_put : (ts : List Tok) (b : List ℕ) → length (put ts b) ≡ length b
 unfolding put
@@ -75,29 +74,29 @@ put_more (u ∷ us) t (x ∷ y ∷ z ∷ b) =
     rw (put_more us t b) (sym (store_past (length us) t u.kind u.start u.stop (put us b)))
 
 lex_more :
-    (n : ℕ) (ed : Edition) (s t : List ℕ) (i at k : ℕ) (a e : BytePos) →
+    (n : ℕ) (ed : Edition) (s t : List ℕ) (i at : ℕ) (x : Token) →
     at ≡ trivia_end s i →
-    token_at ed s t at ≡ Token k a e →
-    let rest = lex_from ed n s t e.0 in
-    lex_from ed (suc n) s t i ≡ record { toks = tok k a.0 e.0 ∷ rest.toks; ending = rest.ending }
+    token_at ed s t at ≡ Ok (Some x) →
+    let rest = lex_from ed n s t x.end.0 in
+    lex_from ed (suc n) s t i ≡ record { toks = tok x.kind x.start.0 x.end.0 ∷ rest.toks; ending = rest.ending }
 unfolding lex_from
-lex_more n ed s t i at k a e p h = rw (← p, h)
+lex_more n ed s t i at x p h = rw (← p, h)
 
 lex_end :
     (n : ℕ) (ed : Edition) (s t : List ℕ) (i at : ℕ) →
     at ≡ trivia_end s i →
-    token_at ed s t at ≡ End →
+    token_at ed s t at ≡ Ok None →
     lex_from ed (suc n) s t i ≡ record { toks = tok (code Eof) at at ∷ []; ending = done }
 unfolding lex_from
 lex_end n ed s t i at p h = rw (← p, h)
 
 lex_refused :
-    (n : ℕ) (ed : Edition) (s t : List ℕ) (i at k : ℕ) (a b : BytePos) →
+    (n : ℕ) (ed : Edition) (s t : List ℕ) (i at : ℕ) (r : Refusal) →
     at ≡ trivia_end s i →
-    token_at ed s t at ≡ Refused k a b →
-    lex_from ed (suc n) s t i ≡ record { toks = []; ending = refused k a.0 b.0 }
+    token_at ed s t at ≡ Err r →
+    lex_from ed (suc n) s t i ≡ record { toks = []; ending = refused r.number r.start r.end }
 unfolding lex_from
-lex_refused n ed s t i at k a b p h = rw (← p, h)
+lex_refused n ed s t i at r p h = rw (← p, h)
 
 -- the reading stands at i, after n tokens, with the records b: what is read is acc, and what is left is what is read
 -- from i
@@ -150,17 +149,17 @@ module _ (ed : Edition) (s t b₀ b : List ℕ) (n i at : ℕ) (g : Going ed s t
       )
 
   pub going_token :
-      (k : ℕ) (a e : BytePos) (b' : List ℕ) {x : Lexed} →
-      (i < e.0) × (e.0 ≤ length s) →
-      x ≡ token_at ed s t at →
-      x ≡ Token k a e →
-      b' ≡ store n (tok k a.0 e.0) b →
-      Going ed s t b₀ b' (n + 1) e.0
-  going_token k a e b' l f h w =
-      let one = tok k a.0 e.0 in
-      let rest : ℕ → Lexing = λ m. lex_from ed m s t e.0 in
+      (x : Token) (b' : List ℕ) {l : Lexed} →
+      (i < x.end.0) × (x.end.0 ≤ length s) →
+      l ≡ token_at ed s t at →
+      l ≡ Ok (Some x) →
+      b' ≡ store n (tok x.kind x.start.0 x.end.0) b →
+      Going ed s t b₀ b' (n + 1) x.end.0
+  going_token x b' l f h w =
+      let one = tok x.kind x.start.0 x.end.0 in
+      let rest : ℕ → Lexing = λ m. lex_from ed m s t x.end.0 in
       let next : ℕ → Lexing = λ m. record { toks = one ∷ (rest m).toks; ending = (rest m).ending } in
-      let u = turn next (λ m. lex_more m ed s t i at k a e p (sym f ∙ h)) in
+      let u = turn next (λ m. lex_more m ed s t i at x p (sym f ∙ h)) in
       record {
         acc = g.acc ++ (one ∷ []);
         left = u.0;
@@ -168,7 +167,7 @@ module _ (ed : Edition) (s t b₀ b : List ℕ) (n i at : ℕ) (g : Going ed s t
         counted = length-append g.acc (one ∷ []) ∙ rw g.counted;
         few = omega (arith, g.few);
         enough = omega (arith, u.1);
-        rest = u.2 ∙ sym (append_assoc g.acc (one ∷ []) (lex_from ed u.0 s t e.0).toks);
+        rest = u.2 ∙ sym (append_assoc g.acc (one ∷ []) (lex_from ed u.0 s t x.end.0).toks);
         last = u.3;
         buffer = w ∙ rw (g.buffer, ← g.counted) (sym (put_more g.acc one b₀));
       }
@@ -176,9 +175,9 @@ module _ (ed : Edition) (s t b₀ b : List ℕ) (n i at : ℕ) (g : Going ed s t
   pub going_end :
       (b' : List ℕ) {x : Lexed} →
       x ≡ token_at ed s t at →
-      x ≡ End →
+      x ≡ Ok None →
       b' ≡ store n (tok (code Eof) at at) b →
-      (Tokens (n + 1) ≡ read_of (lex_all ed s t)) × (b' ≡ put (lex_all ed s t).toks b₀)
+      (Ok (n + 1) ≡ read_of (lex_all ed s t)) × (b' ≡ put (lex_all ed s t).toks b₀)
   unfolding read_of
   going_end b' f h w =
       let last : ℕ → Lexing = λ _. record { toks = tok (code Eof) at at ∷ []; ending = done } in
@@ -188,19 +187,19 @@ module _ (ed : Edition) (s t b₀ b : List ℕ) (n i at : ℕ) (g : Going ed s t
       )
 
   pub going_refused :
-      (k : ℕ) (x y : BytePos) {l : Lexed} →
+      (r : Refusal) {l : Lexed} →
       l ≡ token_at ed s t at →
-      l ≡ Refused k x y →
-      (Stopped k x.0 y.0 ≡ read_of (lex_all ed s t)) × (b ≡ put (lex_all ed s t).toks b₀)
+      l ≡ Err r →
+      (Err r ≡ read_of (lex_all ed s t)) × (b ≡ put (lex_all ed s t).toks b₀)
   unfolding read_of
-  going_refused k x y f h =
-      let last : ℕ → Lexing = λ _. record { toks = []; ending = refused k x.0 y.0 } in
-      let u = turn last (λ m. lex_refused m ed s t i at k x y p (sym f ∙ h)) in
+  going_refused r f h =
+      let last : ℕ → Lexing = λ _. record { toks = []; ending = refused r.number r.start r.end } in
+      let u = turn last (λ m. lex_refused m ed s t i at r p (sym f ∙ h)) in
       (rw u.3, rw (u.2, append-nil g.acc) g.buffer)
 
 pub token_within :
-    (ed : Edition) (s t : List ℕ) (at k : ℕ) (a e : BytePos) {x : Lexed} →
-    x ≡ token_at ed s t at →
-    x ≡ Token k a e →
-    StandsAt ed s at (Token k a e)
-token_within ed s t at k a e f h = rw (sym f ∙ h) at (token_stands ed s t at)
+    (ed : Edition) (s t : List ℕ) (at : ℕ) (x : Token) {l : Lexed} →
+    l ≡ token_at ed s t at →
+    l ≡ Ok (Some x) →
+    StandsAt ed s at (Ok (Some x))
+token_within ed s t at x f h = rw (sym f ∙ h) at (token_stands ed s t at)

@@ -1,5 +1,9 @@
 -- The numbers of the refusals that the lexer gives, and its two limits.
 use Rattle.std.specs.Prelude.{ℕ}
+use Rattle.quanta_lexer.specs.declared.refusal.Refusal.{Refusal}
+
+abbrev pub refusal : ℕ → ℕ → ℕ → Refusal
+refusal k a e = record { number = k; start = a; end = e }
 
 -- the table is too long or malformed
 abbrev pub bad_table : ℕ

@@ -1,14 +1,12 @@
 -- A source as its tokens, and tokens as records in a buffer.
-use Rattle.std.specs.Prelude.{ℕ, zero, suc, ◌+◌, ◌*◌, cond, List, [], ◌∷◌, ◌≡◌, length, set, leb}
+use Rattle.std.specs.Prelude.{ℕ, zero, suc, ◌+◌, ◌*◌, cond, List, [], ◌∷◌, ◌≡◌, length, set, leb, Some, None, Result, Ok, Err}
 use Rattle.quanta_token.specs.declared.edition.Edition.{Edition}
 use Rattle.quanta_token.specs.Token.{Token as TokenOf}
 use Rattle.quanta_token.specs.TokenKind.{code, Eof}
-use Rattle.quanta_lexer.specs.Scan.{token_at}
+use Rattle.quanta_lexer.specs.Refusals.{refusal}
+use Rattle.quanta_lexer.specs.Scan.{Lexed, token_at}
 use Rattle.quanta_lexer.specs.Trivia.{trivia_end}
-use Rattle.quanta_lexer.specs.declared.lexer.Read.{Read}
-use Rattle.quanta_lexer.specs.declared.lexer.Read.TheVariants.{Tokens, Stopped}
-use Rattle.quanta_lexer.specs.declared.scan.Lexed.{Lexed}
-use Rattle.quanta_lexer.specs.declared.scan.Lexed.TheVariants.{Token, End, Refused}
+use Rattle.quanta_lexer.specs.declared.refusal.Refusal.{Refusal}
 
 -- a token
 abbrev pub Tok : Type 0
@@ -28,9 +26,10 @@ pub record Lexing : Type 0 where
 
 -- a token and the rest from its end; Eof at the end of the source; nothing after a refusal
 abbrev pub go_on : (ℕ → Lexing) → ℕ → Lexed → Lexing
-go_on rest i (Token k a e) = record { toks = tok k a.0 e.0 ∷ (rest e.0).toks; ending = (rest e.0).ending }
-go_on rest i End = record { toks = tok (code Eof) i i ∷ []; ending = done }
-go_on rest i (Refused n a e) = record { toks = []; ending = refused n a.0 e.0 }
+go_on rest i (Ok (Some x)) =
+    record { toks = tok x.kind x.start.0 x.end.0 ∷ (rest x.end.0).toks; ending = (rest x.end.0).ending }
+go_on rest i (Ok None) = record { toks = tok (code Eof) i i ∷ []; ending = done }
+go_on rest i (Err r) = record { toks = []; ending = refused r.number r.start r.end }
 
 -- the tokens from i on, at most n; the bound is never met, since a source has no more tokens than bytes and one
 unfoldable pub lex_from : Edition → ℕ → List ℕ → List ℕ → ℕ → Lexing
@@ -42,9 +41,12 @@ unfoldable pub lex_all : Edition → List ℕ → List ℕ → Lexing
 lex_all ed s t = lex_from ed (suc (length s)) s t 0
 
 -- the number of tokens, or the first refusal
+abbrev pub Read : Type 0
+Read = Result ℕ Refusal
+
 abbrev pub read_for : ℕ → Ending → Read
-read_for n done = Tokens n
-read_for n (refused k a e) = Stopped k a e
+read_for n done = Ok n
+read_for n (refused k a e) = Err (refusal k a e)
 
 unfoldable pub read_of : Lexing → Read
 read_of l = read_for (length l.toks) l.ending

@@ -1,4 +1,5 @@
-// The numbers of the refusals that the lexer gives, and its two limits.
+// The numbers of the refusals that the lexer gives, and its two limits. They are document 01's, as all refusals are: the
+// parser's stand between 11 and 28.
 pub const BAD_TABLE: u32 = 1;
 
 pub const LONG_SOURCE: u32 = 2;
@@ -26,3 +27,18 @@ pub const NO_DAY: u32 = 28;
 pub const SOURCE_LIMIT: usize = 1048576;
 
 pub const TABLE_LIMIT: usize = 65536;
+
+// A refusal: its number, and the bytes at fault, of the table under number 1 and of the source under the others.
+#[derive(Clone, Copy, Debug, PartialEq, Eq)]
+pub struct Refusal {
+    pub number: u32,
+    pub start: usize,
+    pub end: usize,
+}
+
+// Why a source has no tokens: a refusal, or 11 with the need.
+#[derive(Clone, Copy, Debug, PartialEq, Eq)]
+pub enum Failure {
+    Refused(Refusal),
+    Short(usize),
+}

@@ -3,14 +3,17 @@
 
 // What stands at a place of the source.
 ghost use Rattle.std.specs.Prelude.{◌≡◌, ◌&&◌, ◌≤◌, ◌<◌, ◌+◌, eqb, length, get_or};
-ghost use Rattle.quanta_token.specs.Bytes.{digit, Chart};
+ghost use Rattle.quanta_token.specs.Bytes.{digit};
 ghost use Rattle.quanta_words.specs.Lookup.{Prepared};
-ghost use Rattle.quanta_lexer.specs.Scan.{pos, word_at, date_at, number_at, string_at, dated, symbol_at, token_at};
+ghost use Rattle.quanta_lexer.specs.Scan.{token, word_at, date_at, number_at, string_at, dated, symbol_at, token_at};
+ghost use Rattle.quanta_lexer.specs.Refusals.{refusal};
 ghost use Rattle.quanta_lexer.specs.Trivia.{comment_at, trivia_end};
 
 use crate::day::is_day;
-use crate::refusal::{BARE_DATE, BARRED_WORD, LEADING_ZERO, NO_DAY, OPEN_STRING, OTHER_BYTE};
-use quanta_token::bytes::{DIGIT, QUOTE, Run, WORD_START, class, peek, run_end};
+use crate::refusal::{
+    BARE_DATE, BARRED_WORD, LEADING_ZERO, NO_DAY, OPEN_STRING, OTHER_BYTE, Refusal,
+};
+use quanta_token::bytes::{ByteChart, ByteClass, Run, peek};
 use quanta_token::edition::Edition;
 use quanta_token::keyword::keyword_kind;
 use quanta_token::symbol::{NO_KIND, pair_kind, single_kind};
@@ -18,45 +21,34 @@ use quanta_token::token::{DATE, INT, STR};
 use quanta_words::lookup::is_forbidden;
 
 // A byte's offset in the source.
-#[derive(Clone, Copy)]
+#[derive(Clone, Copy, Debug, PartialEq, Eq)]
 pub struct BytePos(pub usize);
 
-// A token, the end, or a refusal: what stands at a place.
-#[derive(Clone, Copy)]
-pub enum Lexed {
-    Token {
-        kind: u32,
-        start: BytePos,
-        end: BytePos,
-    },
-    End,
-    Refused {
-        number: u32,
-        start: BytePos,
-        end: BytePos,
-    },
-}
-
 // A token of a kind, from start up to end.
-fn token(kind: u32, start: usize, end: usize) -> Lexed
-    ensures { result ≡ Lexed.Token kind (pos start) (pos end) }
-{
-    Lexed::Token {
-        kind: kind,
-        start: BytePos(start),
-        end: BytePos(end),
-    }
+#[derive(Clone, Copy, Debug, PartialEq, Eq)]
+pub struct Token {
+    pub kind: u32,
+    pub start: BytePos,
+    pub end: BytePos,
 }
 
-// A refusal with its number and span.
-fn refused(number: u32, start: usize, end: usize) -> Lexed
-    ensures { result ≡ Lexed.Refused number (pos start) (pos end) }
+// What stands at a place: a token, nothing at the end, or a refusal.
+pub type Lexed = Result<Option<Token>, Refusal>;
+
+fn found(kind: u32, start: usize, end: usize) -> Lexed
+    ensures { result ≡ Ok (Some (token kind start end)) }
 {
-    Lexed::Refused {
-        number: number,
+    Ok(Some(Token {
+        kind,
         start: BytePos(start),
         end: BytePos(end),
-    }
+    }))
+}
+
+fn refused(number: u32, start: usize, end: usize) -> Lexed
+    ensures { result ≡ Err (refusal number start end) }
+{
+    Err(Refusal { number, start, end })
 }
 
 // Whether `//` stands at i.
@@ -68,31 +60,30 @@ fn is_comment_at(src: &[u8], i: usize) -> bool
 }
 
 // The first place at or after `at` that is in no blank and in no comment.
-pub fn skip_trivia(chart: &[u8; 256], src: &[u8], at: BytePos) -> BytePos
-    requires { (at.0 ≤ length src.now) × Chart chart.now }
+pub fn skip_trivia(chart: &ByteChart, src: &[u8], at: BytePos) -> BytePos
+    requires { at.0 ≤ length src.now }
     ensures { result.0 ≡ trivia_end src.now at.0 }
 {
     let mut i = at.0;
     loop {
-        i = run_end(chart, src, i, Run::Blanks);
+        i = chart.run_end(src, i, Run::Blanks);
         if !is_comment_at(src, i) {
             return BytePos(i);
         }
-        i = run_end(chart, src, i, Run::Comment);
+        i = chart.run_end(src, i, Run::Comment);
     }
 }
 
 // Whether a digit stands at i.
-fn is_digit_at(chart: &[u8; 256], src: &[u8], i: usize) -> bool
-    requires { Chart chart.now }
+fn is_digit_at(chart: &ByteChart, src: &[u8], i: usize) -> bool
     ensures { result ≡ digit (get_or src.now i 0) }
 {
-    class(chart, peek(src, i)) == DIGIT
+    chart.class(peek(src, i)) == ByteClass::Digit
 }
 
 // Whether a date shape stands at i. Its first dash is looked for first: few numbers have one.
-fn is_date_at(chart: &[u8; 256], src: &[u8], i: usize) -> bool
-    requires { (i ≤ length src.now) × Chart chart.now }
+fn is_date_at(chart: &ByteChart, src: &[u8], i: usize) -> bool
+    requires { i ≤ length src.now }
     ensures { result ≡ date_at src.now i }
 {
     if peek(src, i + 4) != b'-' {
@@ -113,54 +104,54 @@ fn is_date_at(chart: &[u8; 256], src: &[u8], i: usize) -> bool
 
 // A word: refused if the table holds it, else a keyword or an identifier.
 fn scan_word(
-    chart: &[u8; 256],
+    chart: &ByteChart,
     src: &[u8],
     words: &[u8],
     seen: &[u8; 1280],
     index: &[u16],
     start: usize,
 ) -> Lexed
-    requires { (start ≤ length src.now) × Chart chart.now × Prepared words.now seen.now index.now }
+    requires { (start ≤ length src.now) × Prepared words.now seen.now index.now }
     ensures { result ≡ word_at src.now words.now start }
 {
-    let end = run_end(chart, src, start, Run::Word);
+    let end = chart.run_end(src, start, Run::Word);
     let word = &src[start..end];
     if is_forbidden(words, seen, index, word) {
         return refused(BARRED_WORD, start, end);
     }
-    token(keyword_kind(word), start, end)
+    found(keyword_kind(word), start, end)
 }
 
 // A number: refused in a date shape, and if it starts with a needless 0.
-fn scan_number(chart: &[u8; 256], src: &[u8], start: usize) -> Lexed
-    requires { (start < length src.now) × Chart chart.now }
+fn scan_number(chart: &ByteChart, src: &[u8], start: usize) -> Lexed
+    requires { start < length src.now }
     ensures { result ≡ number_at src.now start }
 {
     if is_date_at(chart, src, start) {
         return refused(BARE_DATE, start, start + 10);
     }
-    let end = run_end(chart, src, start, Run::Number);
+    let end = chart.run_end(src, start, Run::Number);
     if (src[start] == b'0') & (start + 1 < end) {
         return refused(LEADING_ZERO, start, end);
     }
-    token(INT, start, end)
+    found(INT, start, end)
 }
 
 // A string: refused if it is open at LF or the end.
-fn scan_string(chart: &[u8; 256], src: &[u8], start: usize) -> Lexed
-    requires { (start < length src.now) × Chart chart.now }
+fn scan_string(chart: &ByteChart, src: &[u8], start: usize) -> Lexed
+    requires { start < length src.now }
     ensures { result ≡ string_at src.now start }
 {
-    let quote = run_end(chart, src, start + 1, Run::Quoted);
+    let quote = chart.run_end(src, start + 1, Run::Quoted);
     if peek(src, quote) == b'"' {
-        return token(STR, start, quote + 1);
+        return found(STR, start, quote + 1);
     }
     refused(OPEN_STRING, start, quote)
 }
 
 // Whether c is `@` and a date shape follows it.
-fn is_date_after(chart: &[u8; 256], src: &[u8], c: u8, start: usize) -> bool
-    requires { (start < length src.now) × Chart chart.now }
+fn is_date_after(chart: &ByteChart, src: &[u8], c: u8, start: usize) -> bool
+    requires { start < length src.now }
     ensures { result ≡ (eqb c 0x40 && date_at src.now (start + 1)) }
 {
     if c != b'@' {
@@ -181,24 +172,24 @@ fn is_dated(edition: Edition, src: &[u8], i: usize) -> bool
 }
 
 // A date, a symbol of two bytes, a symbol of one, or another byte.
-fn scan_symbol(edition: Edition, chart: &[u8; 256], src: &[u8], start: usize) -> Lexed
-    requires { (start < length src.now) × Chart chart.now }
+fn scan_symbol(edition: Edition, chart: &ByteChart, src: &[u8], start: usize) -> Lexed
+    requires { start < length src.now }
     ensures { result ≡ symbol_at edition src.now start }
 {
     let c = src[start];
     if is_date_after(chart, src, c, start) {
         if is_dated(edition, src, start + 1) {
-            return token(DATE, start, start + 11);
+            return found(DATE, start, start + 11);
         }
         return refused(NO_DAY, start, start + 11);
     }
     let two = pair_kind(c, peek(src, start + 1));
     if two != NO_KIND {
-        return token(two, start, start + 2);
+        return found(two, start, start + 2);
     }
     let one = single_kind(c);
     if one != NO_KIND {
-        return token(one, start, start + 1);
+        return found(one, start, start + 1);
     }
     refused(OTHER_BYTE, start, start + 1)
 }
@@ -206,29 +197,24 @@ fn scan_symbol(edition: Edition, chart: &[u8; 256], src: &[u8], start: usize) ->
 // What stands at `at`, where no blank and no comment does.
 pub fn next_token(
     edition: Edition,
-    chart: &[u8; 256],
+    chart: &ByteChart,
     src: &[u8],
     words: &[u8],
     seen: &[u8; 1280],
     index: &[u16],
     at: BytePos,
 ) -> Lexed
-    requires { Chart chart.now × Prepared words.now seen.now index.now }
+    requires { Prepared words.now seen.now index.now }
     ensures { result ≡ token_at edition src.now words.now at.0 }
 {
     let start = at.0;
     if src.len() <= start {
-        return Lexed::End;
+        return Ok(None);
     }
-    let k = class(chart, src[start]);
-    if k == WORD_START {
-        return scan_word(chart, src, words, seen, index, start);
+    match chart.class(src[start]) {
+        ByteClass::WordStart => scan_word(chart, src, words, seen, index, start),
+        ByteClass::Digit => scan_number(chart, src, start),
+        ByteClass::Quote => scan_string(chart, src, start),
+        _ => scan_symbol(edition, chart, src, start),
     }
-    if k == DIGIT {
-        return scan_number(chart, src, start);
-    }
-    if k == QUOTE {
-        return scan_string(chart, src, start);
-    }
-    scan_symbol(edition, chart, src, start)
 }

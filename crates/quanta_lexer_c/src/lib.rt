@@ -6,8 +6,8 @@ ghost use Rattle.quanta_token.specs.declared.edition.Edition.TheVariants.{One};
 ghost use Rattle.quanta_lexer.specs.Tokenizing.{tokenizing, token_words};
 ghost use Rattle.quanta_lexer_c.specs.Outcome.{outcome_of};
 
-use quanta_lexer::lexer::{Answer, tokenize};
-use quanta_lexer::refusal::NO_ROOM;
+use quanta_lexer::lexer::tokenize;
+use quanta_lexer::refusal::{Failure, NO_ROOM, Refusal};
 use quanta_token::edition::Edition;
 
 // The answer in document 01's numbers: number 0 is acceptance with so many tokens; need is for number 11.
@@ -28,21 +28,21 @@ pub extern "C" fn quanta_tokenize(source: &[u8], words: &[u8], tokens: &mut [u32
         token_words One source.now words.now (length tokens.old)) }
 {
     match tokenize(Edition::One, source, words, tokens) {
-        Answer::Accepted(n) => Outcome {
+        Ok(n) => Outcome {
             number: 0,
             start: 0,
             end: 0,
             need: 0,
             tokens: n as u32,
         },
-        Answer::Refused { number, start, end } => Outcome {
-            number: number,
+        Err(Failure::Refused(Refusal { number, start, end })) => Outcome {
+            number,
             start: start as u32,
             end: end as u32,
             need: 0,
             tokens: 0,
         },
-        Answer::Short(n) => Outcome {
+        Err(Failure::Short(n)) => Outcome {
             number: NO_ROOM,
             start: 0,
             end: 0,

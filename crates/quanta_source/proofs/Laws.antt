@@ -9,8 +9,9 @@ use native.Mathlib.Nat.{sub-zero}
 use lib.ListN.{length, get_or}
 use lib.Dec.{eqb, ltb}
 use borrow.Author.Tests.{not-true, ltb-true, ltb-false}
-use Rattle.quanta_source.specs.declared.source.Checked.{Checked}
-use Rattle.quanta_source.specs.declared.source.Checked.TheVariants.{Clean, CarriageReturn, Barred}
+use Rattle.std.specs.Prelude.{Result, Ok, Err}
+use Rattle.quanta_source.specs.declared.source.Fault.{Fault}
+use Rattle.quanta_source.specs.declared.source.Fault.TheVariants.{CarriageReturn, Barred}
 use Rattle.quanta_source.specs.Source.{bare_at, barred_at, check_from, checked}
 use Rattle.quanta_source.specs.Tests.{is_lead, is_bare, is_barred, is_mark, Fine, FineIn}
 use Rattle.quanta_source.proofs.Bytes.{barred_by_bytes}
@@ -50,8 +51,8 @@ module _ (s : List ℕ) where
       let q = neither (is_bare (c i) (d i)) (is_barred (c i) (d i) (e i)) p.0 in
       (q.0, rw (barred_by_bytes s i, q.1, p.1))
 
-  pub fine_none : (a : ℕ) → FineIn s a (a + 0)
-  fine_none a i l u = absurd (omega arith)
+  pub fine_none : (a z : ℕ) → z ≤ a → FineIn s a z
+  fine_none a z h i l u = absurd (omega arith)
 
   pub fine_join : (a m z : ℕ) → FineIn s a m → FineIn s m z → FineIn s a z
   fine_join a m z f g i l u = at (ltb i m) refl
@@ -63,20 +64,17 @@ module _ (s : List ℕ) where
   pub fine_one : (i : ℕ) → Fine s i → FineIn s i (i + 1)
   fine_one i h j l u = let same : i ≡ j = omega arith in rw same at h
 
-  -- a block whose k first bytes and the next pass
-  pub fine_next : (a k : ℕ) (x y : Bool) → (x ≡ true → FineIn s a (a + k)) → (y ≡ true → Fine s (a + k)) → (x && y) ≡ true → FineIn s a (a + (k + 1))
-  fine_next a k x y f g h =
-      let p = both x y h in
-      let there : a + k + 1 ≡ a + (k + 1) = omega arith in
-      rw there at (fine_join a (a + k) (a + k + 1) (f p.0) (fine_one (a + k) (g p.1)))
+  -- a block whose bytes before i and the byte at i pass
+  pub fine_next : (a i : ℕ) (x y : Bool) → (x ≡ true → FineIn s a i) → (y ≡ true → Fine s i) → (x && y) ≡ true → FineIn s a (i + 1)
+  fine_next a i x y f g h = let p = both x y h in fine_join a i (i + 1) (f p.0) (fine_one i (g p.1))
 
   -- the turns of the pass
-  pub bare_stops : (n i : ℕ) → 1 ≤ n → bare_at s i ≡ true → check_from n s i ≡ CarriageReturn i
+  pub bare_stops : (n i : ℕ) → 1 ≤ n → bare_at s i ≡ true → check_from n s i ≡ Err (CarriageReturn i)
   unfolding check_from
   bare_stops zero i h f = absurd (omega arith)
   bare_stops (suc n) i h f = rw f
 
-  pub barred_stops : (n i : ℕ) → 1 ≤ n → bare_at s i ≡ false → barred_at s i ≡ true → check_from n s i ≡ Barred i
+  pub barred_stops : (n i : ℕ) → 1 ≤ n → bare_at s i ≡ false → barred_at s i ≡ true → check_from n s i ≡ Err (Barred i)
   unfolding check_from
   barred_stops zero i h f g = absurd (omega arith)
   barred_stops (suc n) i h f g = rw (f, g)
@@ -85,7 +83,7 @@ module _ (s : List ℕ) where
   unfolding check_from
   goes_on n m i h f = rw (h, add-one m, f.0, f.1)
 
-  pub at_end : (n i : ℕ) → n ≡ 0 → check_from n s i ≡ Clean
+  pub at_end : (n i : ℕ) → n ≡ 0 → check_from n s i ≡ Ok tt
   unfolding check_from
   at_end n i h = rw h
 
@@ -96,22 +94,22 @@ module _ (s : List ℕ) where
       goes_past i (omega arith) (λ j l u. f j l (omega arith)) ∙ goes_on (length s - i) (length s - suc i) i (omega arith) (f i (omega arith) (omega arith)) ∙ ap (check_from (length s - suc i) s) (add-one i)
 
   -- what the pass finds: r, in the part from a up to e
-  abbrev pub Finds : ℕ → ℕ → Checked → Type 0
-  Finds a e Clean = FineIn s a e
-  Finds a e (CarriageReturn i) = (a ≤ i) × (i < e) × (bare_at s i ≡ true) × FineIn s a i
-  Finds a e (Barred i) = (a ≤ i) × (i < e) × (bare_at s i ≡ false) × (barred_at s i ≡ true) × FineIn s a i
+  abbrev pub Finds : ℕ → ℕ → Result Unit Fault → Type 0
+  Finds a e (Ok tt) = FineIn s a e
+  Finds a e (Err (CarriageReturn i)) = (a ≤ i) × (i < e) × (bare_at s i ≡ true) × FineIn s a i
+  Finds a e (Err (Barred i)) = (a ≤ i) × (i < e) × (bare_at s i ≡ false) × (barred_at s i ≡ true) × FineIn s a i
 
-  found_later : (a e : ℕ) (r : Checked) → Fine s a → Finds (a + 1) e r → Finds a e r
-  found_later a e Clean f g = fine_join a (a + 1) e (fine_one a f) g
-  found_later a e (CarriageReturn i) f g = (omega (arith, g.0), g.1, g.2, fine_join a (a + 1) i (fine_one a f) g.3)
-  found_later a e (Barred i) f g = (omega (arith, g.0), g.1, g.2, g.3, fine_join a (a + 1) i (fine_one a f) g.4)
+  found_later : (a e : ℕ) (r : Result Unit Fault) → Fine s a → Finds (a + 1) e r → Finds a e r
+  found_later a e (Ok tt) f g = fine_join a (a + 1) e (fine_one a f) g
+  found_later a e (Err (CarriageReturn i)) f g = (omega (arith, g.0), g.1, g.2, fine_join a (a + 1) i (fine_one a f) g.3)
+  found_later a e (Err (Barred i)) f g = (omega (arith, g.0), g.1, g.2, g.3, fine_join a (a + 1) i (fine_one a f) g.4)
 
   finds : (n i e : ℕ) → i + n ≡ e → Finds i e (check_from n s i)
   unfolding check_from
   finds zero i e h = λ j l u. absurd (omega arith)
   finds (suc n) i e h = at (bare_at s i) refl (barred_at s i) refl (finds n (i + 1) e (omega arith))
     where
-      at : (b : Bool) → bare_at s i ≡ b → (c : Bool) → barred_at s i ≡ c → Finds (i + 1) e (check_from n s (i + 1)) → Finds i e (cond b (CarriageReturn i) (cond c (Barred i) (check_from n s (i + 1))))
+      at : (b : Bool) → bare_at s i ≡ b → (c : Bool) → barred_at s i ≡ c → Finds (i + 1) e (check_from n s (i + 1)) → Finds i e (cond b (Err (CarriageReturn i)) (cond c (Err (Barred i)) (check_from n s (i + 1))))
       at true f c g rest = (omega arith, omega arith, f, λ j l u. absurd (omega arith))
       at false f true g rest = (omega arith, omega arith, f, g, λ j l u. absurd (omega arith))
       at false f false g rest = found_later i e (check_from n s (i + 1)) (f, g) rest

@@ -1,7 +1,7 @@
 -- What no source may hold: a CR without LF, and the barred characters, by their code points.
-use Rattle.std.specs.Prelude.{ℕ, zero, suc, ◌+◌, ◌-◌, ◌/◌, ◌%◌, Bool, true, false, not, cond, ◌&&◌, ◌||◌, List, [], ◌∷◌, ◌++◌, eqb, ltb, length, get_or, drop}
-use Rattle.quanta_source.specs.declared.source.Checked.{Checked}
-use Rattle.quanta_source.specs.declared.source.Checked.TheVariants.{Clean, CarriageReturn, Barred}
+use Rattle.std.specs.Prelude.{ℕ, zero, suc, ◌+◌, ◌-◌, ◌/◌, ◌%◌, Bool, true, false, not, cond, ◌&&◌, ◌||◌, List, [], ◌∷◌, ◌++◌, eqb, ltb, length, get_or, drop, Result, Ok, Err}
+use Rattle.quanta_source.specs.declared.source.Fault.{Fault}
+use Rattle.quanta_source.specs.declared.source.Fault.TheVariants.{CarriageReturn, Barred}
 
 abbrev pub LF : ℕ
 LF = 0x0A
@@ -59,9 +59,9 @@ unfoldable pub bare_at : List ℕ → ℕ → Bool
 bare_at s i = eqb (get_or s i 0) CR && not (eqb (get_or s (i + 1) 0) LF)
 
 -- the first of the n bytes from i on that is a CR without LF or begins a barred character, at each byte the CR first
-unfoldable pub check_from : ℕ → List ℕ → ℕ → Checked
-check_from zero s i = Clean
-check_from (suc n) s i = cond (bare_at s i) (CarriageReturn i) (cond (barred_at s i) (Barred i) (check_from n s (i + 1)))
+unfoldable pub check_from : ℕ → List ℕ → ℕ → Result Unit Fault
+check_from zero s i = Ok tt
+check_from (suc n) s i = cond (bare_at s i) (Err (CarriageReturn i)) (cond (barred_at s i) (Err (Barred i)) (check_from n s (i + 1)))
 
-unfoldable pub checked : List ℕ → Checked
+unfoldable pub checked : List ℕ → Result Unit Fault
 checked s = check_from (length s) s 0

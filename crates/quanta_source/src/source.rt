@@ -6,10 +6,9 @@ ghost use Rattle.std.specs.Prelude.{◌≡◌, true, ◌+◌, ◌≤◌, ◌<◌
 ghost use Rattle.quanta_source.specs.Source.{bare_at, barred_at, checked};
 ghost use Rattle.quanta_source.specs.Tests.{is_lead, is_bare, is_barred, is_mark, FineIn};
 
-// Nothing of it; or a CR without LF, or a barred character, and the offset of its first byte.
-#[derive(Clone, Copy)]
-pub enum Checked {
-    Clean,
+// A CR without LF, or a barred character, and the offset of its first byte.
+#[derive(Clone, Copy, Debug, PartialEq, Eq)]
+pub enum Fault {
     CarriageReturn(usize),
     Barred(usize),
 }
@@ -18,7 +17,7 @@ pub enum Checked {
 fn peek(src: &[u8], i: usize) -> u8
     ensures { result ≡ get_or src.now i 0 }
 {
-    if i < src.len() { src[i] } else { 0 }
+    src.get(i).copied().unwrap_or(0)
 }
 
 // A CR without LF, by a byte c and the byte d after it.
@@ -64,13 +63,9 @@ fn quiet_block(src: &[u8], at: usize) -> bool
     ensures { result ≡ true → FineIn src.now at (at + 32) }
 {
     let mut none = true;
-    let mut k = 0;
-    while k < 32 {
-        let i = at + k;
+    for i in at..at + 32 {
         let c = src[i];
-        let d = src[i + 1];
-        none = none & !(is_bare(c, d) | is_lead(c));
-        k += 1;
+        none &= !(is_bare(c, src[i + 1]) | is_lead(c));
     }
     none
 }
@@ -81,14 +76,11 @@ fn clean_block(src: &[u8], at: usize) -> bool
     ensures { result ≡ true → FineIn src.now at (at + 32) }
 {
     let mut none = true;
-    let mut k = 0;
-    while k < 32 {
-        let i = at + k;
+    for i in at..at + 32 {
         let c = src[i];
         let d = src[i + 1];
         let e = src[i + 2];
-        none = none & !(is_bare(c, d) | is_barred(c, d, e) | is_mark(c, d, e));
-        k += 1;
+        none &= !(is_bare(c, d) | is_barred(c, d, e) | is_mark(c, d, e));
     }
     none
 }
@@ -98,10 +90,7 @@ fn passes(src: &[u8], at: usize) -> bool
     requires { at + 34 ≤ length src.now }
     ensures { result ≡ true → FineIn src.now at (at + 32) }
 {
-    if quiet_block(src, at) {
-        return true;
-    }
-    clean_block(src, at)
+    quiet_block(src, at) || clean_block(src, at)
 }
 
 // A CR without LF at i.
@@ -127,13 +116,7 @@ fn barred_at(src: &[u8], i: usize) -> bool
 fn past_first(src: &[u8]) -> usize
     ensures { (result ≤ length src.now) × FineIn src.now 0 result }
 {
-    if src.len() == 0 {
-        return 0;
-    }
-    if bare_at(src, 0) {
-        return 0;
-    }
-    if barred_at(src, 0) {
+    if src.is_empty() || bare_at(src, 0) || barred_at(src, 0) {
         return 0;
     }
     1
@@ -154,18 +137,16 @@ fn skip_blocks(src: &[u8]) -> usize
 }
 
 // One pass over the whole source: the first byte that is a CR without LF or begins a barred character.
-pub fn check_source(src: &[u8]) -> Checked
+pub fn check_source(src: &[u8]) -> Result<(), Fault>
     ensures { result ≡ checked src.now }
 {
-    let mut i = skip_blocks(src);
-    while i < src.len() {
+    for i in skip_blocks(src)..src.len() {
         if bare_at(src, i) {
-            return Checked::CarriageReturn(i);
+            return Err(Fault::CarriageReturn(i));
         }
         if barred_at(src, i) {
-            return Checked::Barred(i);
+            return Err(Fault::Barred(i));
         }
-        i += 1;
     }
-    Checked::Clean
+    Ok(())
 }

@@ -1,15 +1,17 @@
 -- The laws of the byte classes: what the chart says of a byte is what the tests say, by one test computed over the 256 bytes.
-use Prim.Native.Nat.{ℕ, zero, suc, ◌+◌, ◌<◌}
+use Prim.Native.Nat.{ℕ, zero, suc, ◌<◌}
 use mathlib.Core.Path.{◌≡◌, refl, sym, ◌∙◌}
-use mathlib.Core.Bool.{Bool, true, false, not, ◌&&◌}
-use mathlib.Core.List.{List}
+use mathlib.Core.Bool.{Bool, true, false, not, ◌&&◌, or-true}
 use native.Mathlib.Omega.{arith}
-use lib.ListN.{length, get_or, set}
-use lib.Seq.{get_or-set_same, get_or-set_other}
-use lib.Dec.{leb, eqb}
+use lib.Dec.{eqb}
 use borrow.Author.Tests.{eqb-true, eqb-false}
 use Rattle.quanta_token.proofs.BoolLaws.{both}
-use Rattle.quanta_token.specs.Bytes.{digit, word_start, word_byte, blank, WordStart, Digit, Blank, Quote, class_of, class_code}
+use denote.Enum.Bare.{sameb, true_same, false_same}
+use Rattle.std.proofs.Common.{rules, ◌⊎◌, inl, inr}
+use Rattle.quanta_token.specs.declared.bytes.ByteClass.{ByteClass}
+use Rattle.quanta_token.specs.declared.bytes.ByteClass.TheVariants.{WordStart, Digit, Blank, Quote}
+use Rattle.quanta_token.specs.contracts.bytes.ByteClass.{the_type}
+use Rattle.quanta_token.specs.Bytes.{digit, word_start, word_byte, blank, class_of}
 
 -- f holds of each number below n
 unfoldable all : (ℕ → Bool) → ℕ → Bool
@@ -40,37 +42,35 @@ agreed false false h = refl
 equal : (f g : ℕ → Bool) → all (λ c. agree (f c) (g c)) 256 ≡ true → (c : ℕ) → c < 256 → f c ≡ g c
 equal f g t c h = agreed (f c) (g c) (below (λ c. agree (f c) (g c)) 256 t c h)
 
-pub word_start_class : (c : ℕ) → c < 256 → eqb (class_code (class_of c)) (class_code WordStart) ≡ word_start c
-unfolding all agree class_of
-word_start_class = equal (λ c. eqb (class_code (class_of c)) (class_code WordStart)) word_start refl
+-- whether a byte's class is k
+abbrev pub classed : ByteClass → ℕ → Bool
+classed k c = sameb the_type (class_of c) k
 
-pub word_class : (c : ℕ) → c < 256 → leb (class_code (class_of c)) (class_code Digit) ≡ word_byte c
+pub word_start_class : (c : ℕ) → c < 256 → classed WordStart c ≡ word_start c
 unfolding all agree class_of
-word_class = equal (λ c. leb (class_code (class_of c)) (class_code Digit)) word_byte refl
+word_start_class = equal (classed WordStart) word_start refl
 
-pub digit_class : (c : ℕ) → c < 256 → eqb (class_code (class_of c)) (class_code Digit) ≡ digit c
+pub digit_class : (c : ℕ) → c < 256 → classed Digit c ≡ digit c
 unfolding all agree class_of
-digit_class = equal (λ c. eqb (class_code (class_of c)) (class_code Digit)) digit refl
+digit_class = equal (classed Digit) digit refl
 
-pub blank_class : (c : ℕ) → c < 256 → eqb (class_code (class_of c)) (class_code Blank) ≡ blank c
+pub blank_class : (c : ℕ) → c < 256 → classed Blank c ≡ blank c
 unfolding all agree class_of
-blank_class = equal (λ c. eqb (class_code (class_of c)) (class_code Blank)) blank refl
+blank_class = equal (classed Blank) blank refl
 
-pub quote_class : (c : ℕ) → c < 256 → eqb (class_code (class_of c)) (class_code Quote) ≡ eqb c 0x22
+pub quote_class : (c : ℕ) → c < 256 → classed Quote c ≡ eqb c 0x22
 unfolding all agree class_of
-quote_class = equal (λ c. eqb (class_code (class_of c)) (class_code Quote)) (λ c. eqb c 0x22) refl
+quote_class = equal (classed Quote) (λ c. eqb c 0x22) refl
 
--- one more entry of the chart
-pub chart_more :
-    (t : List ℕ) (i v : ℕ) →
-    i < length t →
-    v ≡ class_code (class_of i) →
-    ((c : ℕ) → c < i → get_or t c 0 ≡ class_code (class_of c)) →
-    (c : ℕ) →
-    c < i + 1 →
-    get_or (set t i v) c 0 ≡ class_code (class_of c)
-chart_more t i v h e f c l = at (eqb c i) refl
-  where
-    at : (b : Bool) → eqb c i ≡ b → get_or (set t i v) c 0 ≡ class_code (class_of c)
-    at true q = rw (eqb-true c i q) (get_or-set_same t i v 0 h ∙ e)
-    at false q = get_or-set_other t i c v 0 (eqb-false c i q) ∙ f c (omega (arith, eqb-false c i q))
+-- a byte of another class
+pub unlike : (k : ByteClass) (c : ℕ) (j : ByteClass) → j ≡ class_of c → (j ≡ k → ⊥) → classed k c ≡ false
+unlike k c j e n = false_same the_type (search rules) _ _ (λ z. n (e ∙ z))
+
+-- a word's byte is one of two classes
+pub word_in : (c : ℕ) (k : ByteClass) → c < 256 → k ≡ class_of c → (k ≡ WordStart) ⊎ (k ≡ Digit) → true ≡ word_byte c
+word_in c k l e (inl w) = rw (sym (word_start_class c l) ∙ true_same the_type _ _ (sym e ∙ w))
+word_in c k l e (inr d) = rw (sym (digit_class c l) ∙ true_same the_type _ _ (sym e ∙ d), or-true)
+
+pub word_out : (c : ℕ) (k : ByteClass) → c < 256 → k ≡ class_of c → (k ≡ WordStart → ⊥) → (k ≡ Digit → ⊥) → false ≡ word_byte c
+word_out c k l e w d =
+    rw (sym (word_start_class c l) ∙ unlike WordStart c k e w, sym (digit_class c l) ∙ unlike Digit c k e d)

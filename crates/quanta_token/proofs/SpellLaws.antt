@@ -1,4 +1,4 @@
--- A word spells only what begins as it does: by its first byte it can be few of the keywords, and few of the symbols.
+-- A word spells only what begins as it does: by its first byte it can be few of the keywords.
 use Prim.Native.Nat.{ℕ}
 use mathlib.Core.Path.{◌≡◌, refl, ap, sym, ◌∙◌}
 use mathlib.Core.Bool.{Bool, true, false, ◌&&◌, ◌||◌, false≢true}
@@ -10,7 +10,19 @@ use Rattle.quanta_token.proofs.BoolLaws.{both}
 use Rattle.quanta_token.specs.TokenKind.{code, Ident}
 use Rattle.quanta_token.specs.Text.{Spelled, same, kind_if, kind_in}
 use Rattle.quanta_token.specs.Keywords.{word_kind, keywords}
-use Rattle.quanta_token.specs.Symbols.{pairs, singles, no_kind, pair_kind, single_kind}
+
+same_is : (w t : List ℕ) → same w t ≡ true → w ≡ t
+unfolding same
+same_is [] [] h = refl
+same_is [] (y ∷ ys) h = absurd (false≢true h)
+same_is (x ∷ xs) [] h = absurd (false≢true h)
+same_is (x ∷ xs) (y ∷ ys) h =
+    let p = both (eqb x y) (same xs ys) h in
+    rw (eqb-true x y p.0, same_is xs ys p.1)
+
+-- a word that is a text has the text's kind
+pub kind_of : (w t : List ℕ) → true ≡ same w t → word_kind t ≡ word_kind w
+kind_of w t h = ap word_kind (sym (same_is w t (sym h)))
 
 -- words with other first bytes are not the same
 head_differs : (w t : List ℕ) → (get_or w 0 0 ≡ get_or t 0 0 → ⊥) → same w t ≡ false
@@ -76,10 +88,23 @@ unspelled :
     kind_in es w other ≡ other
 unspelled ks es c w other t h n = kept c es w other h ∙ rw (none_begins c ks es n t)
 
+-- a word is none of these texts
+abbrev pub NoneSpells : List ℕ → List Spelled → Type 0
+NoneSpells w [] = Unit
+NoneSpells w (e ∷ es) = NoneSpells w es × (false ≡ same w e.text)
+
+none_spells : (w : List ℕ) (es : List Spelled) (other : ℕ) → NoneSpells w es → kind_in es w other ≡ other
+unfolding kind_if
+none_spells w [] other n = refl
+none_spells w (e ∷ es) other n = rw (sym n.1) (none_spells w es other n.0)
+
 -- a word's kind, by its first byte
-pub which : (c : ℕ) (w : List ℕ) → get_or w 0 0 ≡ c → word_kind w ≡ kind_in (begins c keywords) w (code Ident)
+which : (c : ℕ) (w : List ℕ) → get_or w 0 0 ≡ c → word_kind w ≡ kind_in (begins c keywords) w (code Ident)
 unfolding word_kind
 which c w h = kept c keywords w (code Ident) h
+
+pub no_kind : (c : ℕ) (w : List ℕ) → get_or w 0 0 ≡ c → NoneSpells w (begins c keywords) → word_kind w ≡ code Ident
+no_kind c w h n = which c w h ∙ none_spells w (begins c keywords) (code Ident) n
 
 -- the first bytes of the keywords: w s r n m l i g f e d c b a Q
 abbrev pub keyword_bytes : List ℕ
@@ -88,20 +113,3 @@ keyword_bytes = 0x77 ∷ 0x73 ∷ 0x72 ∷ 0x6E ∷ 0x6D ∷ 0x6C ∷ 0x69 ∷ 0
 pub no_keyword : (c : ℕ) (w : List ℕ) → get_or w 0 0 ≡ c → NoneOf c keyword_bytes → word_kind w ≡ code Ident
 unfolding word_kind begin_in
 no_keyword c w h n = unspelled keyword_bytes keywords c w (code Ident) refl h n
-
--- the first bytes of the symbols of two: | & ! = > < - +
-abbrev pub pair_bytes : List ℕ
-pair_bytes = 0x7C ∷ 0x26 ∷ 0x21 ∷ 0x3D ∷ 0x3E ∷ 0x3C ∷ 0x2D ∷ 0x2B ∷ []
-
-pub no_pair : (c d : ℕ) → NoneOf c pair_bytes → pair_kind c d ≡ no_kind
-unfolding pair_kind begin_in
-no_pair c d n = unspelled pair_bytes pairs c (c ∷ d ∷ []) no_kind refl refl n
-
--- the symbols of one: ! > < % / * - + = . : ; , ) ( } {
-abbrev pub single_bytes : List ℕ
-single_bytes =
-    0x21 ∷ 0x3E ∷ 0x3C ∷ 0x25 ∷ 0x2F ∷ 0x2A ∷ 0x2D ∷ 0x2B ∷ 0x3D ∷ 0x2E ∷ 0x3A ∷ 0x3B ∷ 0x2C ∷ 0x29 ∷ 0x28 ∷ 0x7D ∷ 0x7B ∷ []
-
-pub no_single : (c : ℕ) → NoneOf c single_bytes → single_kind c ≡ no_kind
-unfolding single_kind begin_in
-no_single c n = unspelled single_bytes singles c (c ∷ []) no_kind refl refl n

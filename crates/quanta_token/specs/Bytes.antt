@@ -1,5 +1,7 @@
 -- The classes of bytes.
 use Rattle.std.specs.Prelude.{ℕ, ◌<◌, Bool, not, cond, ◌&&◌, ◌||◌, List, ◌≡◌, leb, eqb, get_or}
+use Rattle.quanta_token.specs.declared.bytes.ByteClass.{ByteClass}
+use Rattle.quanta_token.specs.declared.bytes.ByteClass.TheVariants.{WordStart, Digit, Blank, Symbol, Quote, At, Other}
 use Rattle.quanta_token.specs.declared.bytes.Run.{Run}
 use Rattle.quanta_token.specs.declared.bytes.Run.TheVariants.{Blanks, Word, Number, Comment, Quoted}
 
@@ -31,29 +33,15 @@ symbol c =
     eqb c 0x7B || eqb c 0x7D || eqb c 0x28 || eqb c 0x29 || eqb c 0x2C || eqb c 0x3B || eqb c 0x3A || eqb c 0x2E || eqb c 0x3D || eqb c 0x2B ||
     eqb c 0x2D || eqb c 0x2A || eqb c 0x2F || eqb c 0x25 || eqb c 0x3C || eqb c 0x3E || eqb c 0x21 || eqb c 0x26 || eqb c 0x7C
 
--- the classes of the chart: each byte has one
-pub data ByteClass : Type 0 where
-  WordStart Digit Blank Symbol Quote At Other : ByteClass
-
--- a class's number in the chart
-abbrev pub class_code : ByteClass → ℕ
-class_code WordStart = 0
-class_code Digit = 1
-class_code Blank = 2
-class_code Symbol = 3
-class_code Quote = 4
-class_code At = 5
-class_code Other = 6
-
 -- the class of a byte
 unfoldable pub class_of : ℕ → ByteClass
 class_of c =
     cond (word_start c) WordStart
     (cond (digit c) Digit (cond (blank c) Blank (cond (symbol c) Symbol (cond (eqb c 0x22) Quote (cond (eqb c 0x40) At Other)))))
 
--- a chart has at each byte the number of its class
-abbrev pub Chart : List ℕ → Type 0
-Chart t = (c : ℕ) → c < 256 → get_or t c 0 ≡ class_code (class_of c)
+-- a chart has at each byte its class
+abbrev pub Chart : List ByteClass → Type 0
+Chart t = (c : ℕ) → c < 256 → get_or t c Other ≡ class_of c
 
 -- what goes on with each run: blanks; a word; digits and `_`; anything but LF; anything but LF and `"`
 abbrev pub goes_on : Run → ℕ → Bool

@@ -5,28 +5,27 @@
 ghost use Rattle.std.specs.Prelude.{◌≡◌};
 ghost use Rattle.quanta_token.specs.Editions.{edition_of};
 
-#[derive(Clone, Copy)]
+#[derive(Clone, Copy, Debug, PartialEq, Eq)]
 pub enum Edition {
     One,
     Two,
 }
 
-// What a number says.
-#[derive(Clone, Copy)]
-pub enum Numbered {
-    Known(Edition),
-    Unknown,
-}
+// A number that is no edition's.
+#[derive(Clone, Copy, Debug, PartialEq, Eq)]
+pub struct UnknownEdition;
 
-// The edition of a number.
-pub fn edition_of(number: u32) -> Numbered
-    ensures { result ≡ edition_of number }
-{
-    if number == 1 {
-        return Numbered::Known(Edition::One);
+impl TryFrom<u32> for Edition {
+    type Error = UnknownEdition;
+
+    ghost try_from_gives = { λ number edition. edition ≡ edition_of number };
+
+    #[tactic(auto, unfolding(crate::specs::Editions::edition_of))]
+    fn try_from(number: u32) -> Result<Edition, UnknownEdition> {
+        match number {
+            1 => Ok(Edition::One),
+            2 => Ok(Edition::Two),
+            _ => Err(UnknownEdition),
+        }
     }
-    if number == 2 {
-        return Numbered::Known(Edition::Two);
-    }
-    Numbered::Unknown
 }

@@ -14,29 +14,26 @@ use crate::token::{
 pub const NO_KIND: u32 = 0;
 
 // The kind of the symbol c d.
+#[tactic(auto, unfolding(crate::specs::Symbols::pair_kind, crate::specs::Text::kind_if, crate::specs::Text::same))]
 pub fn pair_kind(c: u8, d: u8) -> u32
     ensures { result ≡ pair_kind c d }
 {
-    match c {
-        b'+' => if d == b'=' { PLUS_EQ } else { NO_KIND },
-        b'-' => if d == b'=' { MINUS_EQ } else { NO_KIND },
-        b'<' => if d == b'=' { LE } else { NO_KIND },
-        b'>' => if d == b'=' {
-            GE
-        } else if d == b'>' {
-            SHR
-        } else {
-            NO_KIND
-        },
-        b'=' => if d == b'=' { EQ_EQ } else { NO_KIND },
-        b'!' => if d == b'=' { NE } else { NO_KIND },
-        b'&' => if d == b'&' { AND_AND } else { NO_KIND },
-        b'|' => if d == b'|' { OR_OR } else { NO_KIND },
+    match (c, d) {
+        (b'+', b'=') => PLUS_EQ,
+        (b'-', b'=') => MINUS_EQ,
+        (b'<', b'=') => LE,
+        (b'>', b'=') => GE,
+        (b'>', b'>') => SHR,
+        (b'=', b'=') => EQ_EQ,
+        (b'!', b'=') => NE,
+        (b'&', b'&') => AND_AND,
+        (b'|', b'|') => OR_OR,
         _ => NO_KIND,
     }
 }
 
 // The kind of the symbol c.
+#[tactic(auto, unfolding(crate::specs::Symbols::single_kind, crate::specs::Text::kind_if, crate::specs::Text::same))]
 pub fn single_kind(c: u8) -> u32
     ensures { result ≡ single_kind c }
 {

@@ -4,17 +4,27 @@ use mathlib.Core.Path.{◌≡◌, refl, ap, sym, ◌∙◌}
 use mathlib.Core.Bool.{Bool, true, false, cond, ◌&&◌, ◌||◌, false≢true}
 use mathlib.Core.List.{List, [], ◌∷◌}
 use native.Mathlib.Omega.{arith}
-use native.Mathlib.Numerals.{add-one}
-use lib.ListN.{length, get_or, take, drop, drop_of_length-le}
-use lib.Seq.{drop-cons}
+use lib.ListN.{length, get_or, drop, length-drop}
+use lib.Seq.{drop-drop}
+use Rattle.std.proofs.lemmas.List.{take_all, get_or-drop}
 use lib.Dec.{eqb, leb, ltb}
-use borrow.Author.Tests.{lt-ltb, le-ltb, le-leb, lt-leb, leb-true, leb-false, ltb-false, eqb-true}
+use borrow.Author.Tests.{lt-ltb, le-leb, lt-leb, leb-true, leb-false, ltb-false, eqb-true}
 use Rattle.quanta_token.specs.Bytes.{word_start, word_byte}
+use Rattle.std.specs.Prelude.{Option, Some, None, MatchOption, bytes_eq}
+use Rattle.std.specs.List.{slice_range, list_all}
+use Rattle.std.specs.Slice.{IsGetRangeResult}
+use denote.Ref.{Bor}
 use Rattle.quanta_token.specs.Text.{same}
-use Rattle.quanta_words.specs.Words.{all, is_word, size_at, after_at, word_at, record_at, bad_from, words_from, words_in, among, held_in}
+use Rattle.quanta_words.specs.Words.{HasWord, is_word, size_at, after_at, word_at, record_at, bad_from}
+use Rattle.quanta_words.specs.Words.{words_from, words_in, among, held_in}
 
--- the turns of a word's test
-pub word_starts : (w : List ℕ) → word_start (get_or w 0 0) ≡ true → is_word w ≡ all word_byte (drop 1 w)
+-- a word's test, by its first byte
+pub word_empty : (w : List ℕ) → length w < 1 → is_word w ≡ false
+unfolding is_word
+word_empty [] h = refl
+word_empty (c ∷ cs) h = absurd (omega arith)
+
+pub word_starts : (w : List ℕ) → word_start (get_or w 0 0) ≡ true → is_word w ≡ list_all word_byte (drop 1 w)
 unfolding is_word
 word_starts [] h = absurd (false≢true h)
 word_starts (c ∷ cs) h = rw h
@@ -24,22 +34,47 @@ unfolding is_word
 word_none [] h = refl
 word_none (c ∷ cs) h = rw h
 
-module _ (p : ℕ → Bool) (w : List ℕ) (i : ℕ) where
-  pub all_more : i < length w → p (get_or w i 0) ≡ true → all p (drop i w) ≡ all p (drop (i + 1) w)
-  unfolding all
-  all_more h e = rw (drop-cons w i 0 h, e, add-one)
+-- what is cut from a table behind a length byte is a record's word
+pub word_cut :
+    (t rest : List ℕ) (i size : ℕ) →
+    rest ≡ slice_range t i (length t) →
+    length rest + i ≡ length t →
+    2 < length rest →
+    size ≡ get_or rest 2 0 →
+    (r : Option (Bor (List ℕ))) →
+    IsGetRangeResult rest 3 (3 + size) r →
+    MatchOption r (length t < after_at t i) (λ w. HasWord t i w.now)
+word_cut t rest i size e l h q r g = at r g
+  where
+    rest_is : rest ≡ drop i t
+    rest_is = e ∙ take_all (length t - i) (drop i t) (omega (arith, length-drop i t))
 
-  pub all_stop : i < length w → p (get_or w i 0) ≡ false → all p (drop i w) ≡ false
-  unfolding all
-  all_stop h e = rw (drop-cons w i 0 h, e)
+    size_is : size ≡ size_at t i
+    size_is = q ∙ ap (λ x. get_or x 2 0) rest_is ∙ get_or-drop i t 2 0
 
-  pub all_past : length w ≤ i → all p (drop i w) ≡ true
-  unfolding all
-  all_past h = rw (drop_of_length-le w h)
+    at :
+        (r : Option (Bor (List ℕ))) →
+        IsGetRangeResult rest 3 (3 + size) r →
+        MatchOption r (length t < after_at t i) (λ w. HasWord t i w.now)
+    at None g = grind (arith, size_is, g.0)
+    at (Some w) g =
+        let n : 3 + size - 3 ≡ size_at t i = omega (arith, size_is) in
+        record {
+          is = g.0.2 ∙ rw (n, rest_is, drop-drop 3 i t);
+          next = omega (arith, g.0.3, size_is);
+          inside = omega (arith, g.0.1, size_is);
+        }
 
 pub record_short : (t : List ℕ) (i : ℕ) → length t < after_at t i → record_at t i ≡ false
 unfolding record_at
 record_short t i h = rw (lt-leb (after_at t i) (length t) h)
+
+pub record_whole :
+    (t : List ℕ) (i : ℕ) (w : List ℕ) →
+    HasWord t i w →
+    record_at t i ≡ (eqb (get_or t i 0) 0x46 && eqb (get_or t (i + 1) 0) 0x57 && is_word w)
+unfolding record_at
+record_whole t i w g = rw (le-leb (after_at t i) (length t) g.inside, g.is)
 
 pub record_within : (t : List ℕ) (i : ℕ) → record_at t i ≡ true → after_at t i ≤ length t
 record_within t i h = at (leb (after_at t i) (length t)) refl
@@ -48,25 +83,24 @@ record_within t i h = at (leb (after_at t i) (length t)) refl
     at true e = leb-true _ _ e
     at false e = absurd (false≢true (sym (record_short t i (leb-false (after_at t i) (length t) e)) ∙ h))
 
-pub bad_past : (n : ℕ) (t : List ℕ) (i : ℕ) → length t ≤ i → bad_from n t i ≡ i
+pub bad_stop : (n : ℕ) (t : List ℕ) (i : ℕ) → record_at t i ≡ false → bad_from n t i ≡ i
 unfolding bad_from
-bad_past zero t i h = refl
-bad_past (suc n) t i h = rw (le-ltb i (length t) h)
-
-pub bad_stop : (n : ℕ) (t : List ℕ) (i : ℕ) → i < length t → record_at t i ≡ false → bad_from n t i ≡ i
-unfolding bad_from
-bad_stop zero t i h r = refl
-bad_stop (suc n) t i h r = rw (lt-ltb i (length t) h, r)
+bad_stop zero t i r = refl
+bad_stop (suc n) t i r = rw r (at (ltb i (length t)))
+  where
+    at : (b : Bool) → cond b i i ≡ i
+    at true = refl
+    at false = refl
 
 pub bad_more :
     (n : ℕ) (t : List ℕ) (i : ℕ) →
     length t < n + i →
-    i < length t →
+    after_at t i ≤ length t →
     record_at t i ≡ true →
     (m : ℕ) × (length t < m + after_at t i) × (bad_from n t i ≡ bad_from m t (after_at t i))
 unfolding bad_from
 bad_more zero t i b h r = absurd (omega arith)
-bad_more (suc n) t i b h r = (n, omega arith, rw (lt-ltb i (length t) h, r))
+bad_more (suc n) t i b h r = (n, omega arith, rw (lt-ltb i (length t) (omega arith), r))
 
 pub bad_within : (n : ℕ) (t : List ℕ) (i : ℕ) → i ≤ length t → bad_from n t i ≤ length t
 unfolding bad_from
@@ -121,11 +155,21 @@ pub held_more :
 held_more zero t i w b h s = absurd (omega arith)
 held_more (suc n) t i w b h s = (n, omega arith, held_next n t i w h s)
 
--- the part from i + 3 to the place after a record is its word
-pub word_part : (t : List ℕ) (i after : ℕ) → after ≡ after_at t i → word_at t i ≡ take (after - (i + 3)) (drop (i + 3) t)
-word_part t i after e =
-    let size : size_at t i ≡ after - (i + 3) = omega arith in
-    ap (λ (n : ℕ). take n (drop (i + 3) t)) size
+-- std's test of two slices
+pub same_is : (a b : List ℕ) → bytes_eq a b ≡ same a b
+unfolding same
+same_is [] [] = refl
+same_is [] (y ∷ ys) = refl
+same_is (x ∷ xs) [] = refl
+same_is (x ∷ xs) (y ∷ ys) = rw (same_is xs ys)
+
+pub same_of :
+    (w h : List ℕ) {t : List ℕ} {i : ℕ} {e x : Bool} →
+    HasWord t i h →
+    e ≡ bytes_eq w h →
+    e ≡ x →
+    same w (word_at t i) ≡ x
+same_of w h g f k = ap (same w) (sym g.is) ∙ sym (same_is w h) ∙ sym f ∙ k
 
 one_of : (a b : Bool) → (a && b) ≡ true → (a ≡ true) × (b ≡ true)
 one_of true b h = (refl, h)

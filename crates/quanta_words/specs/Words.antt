@@ -1,16 +1,13 @@
 -- The word table: records of the mark 46 57, a length byte 1 to 255, and that many bytes that form one word.
-use Rattle.std.specs.Prelude.{ℕ, zero, suc, ◌+◌, Bool, true, false, cond, ◌&&◌, ◌||◌, List, [], ◌∷◌, length, get_or, take, drop, eqb, leb, ltb}
+use Rattle.std.specs.Prelude.{ℕ, zero, suc, ◌+◌, ◌≤◌, ◌≡◌, Bool, false, cond, ◌&&◌, ◌||◌, List, [], ◌∷◌, length, get_or, take, drop, eqb, leb, ltb}
+use Rattle.std.specs.List.{list_all}
 use Rattle.quanta_token.specs.Bytes.{word_start, word_byte}
 use Rattle.quanta_token.specs.Text.{same}
-
-unfoldable pub all : (ℕ → Bool) → List ℕ → Bool
-all p [] = true
-all p (c ∷ cs) = p c && all p cs
 
 -- a letter or `_`, then letters, digits and `_`
 unfoldable pub is_word : List ℕ → Bool
 is_word [] = false
-is_word (c ∷ cs) = word_start c && all word_byte cs
+is_word (c ∷ cs) = word_start c && list_all word_byte cs
 
 -- the length byte of the record at i, the place after the record, and the record's word
 abbrev pub size_at : List ℕ → ℕ → ℕ
@@ -21,6 +18,12 @@ after_at t i = i + 3 + size_at t i
 
 abbrev pub word_at : List ℕ → ℕ → List ℕ
 word_at t i = take (size_at t i) (drop (i + 3) t)
+
+-- w is the word of the record at i, which ends in the table
+pub record HasWord (t : List ℕ) (i : ℕ) (w : List ℕ) : Type 0 where
+  pub is : w ≡ word_at t i
+  pub next : i + (3 + length w) ≡ after_at t i
+  pub inside : after_at t i ≤ length t
 
 -- a whole record stands at i: the mark, a length byte, and that many bytes that form one word (no word is empty)
 unfoldable pub record_at : List ℕ → ℕ → Bool

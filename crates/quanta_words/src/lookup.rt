@@ -4,7 +4,7 @@ ghost use Rattle.quanta_words.specs.Words.{held_in};
 ghost use Rattle.quanta_words.specs.Lookup.{key_of, Sifts, Prepared};
 
 use crate::index::probe;
-use crate::words::{after_at, holds};
+use crate::words::{holds, word_at};
 use quanta_token::bytes::peek;
 
 // A word's place in the sieve. A word of one byte shares its place with no other word.
@@ -23,16 +23,11 @@ pub fn sift(table: &[u8]) -> [u8; 1280]
 {
     let mut seen = [0u8; 1280];
     let mut i = 0;
-    loop {
-        let after = after_at(table, i);
-        if table.len() < after {
-            return seen;
-        }
-        let text = i + 3;
-        let k = key(&table[text..after]);
-        seen[k] = 1;
-        i = after;
+    while let Some(word) = word_at(table, i) {
+        seen[key(word)] = 1;
+        i += 3 + word.len();
     }
+    seen
 }
 
 // Whether a record holds the word. The sieve, then the index say of nearly every other word that none does.
@@ -40,14 +35,11 @@ pub fn is_forbidden(table: &[u8], seen: &[u8; 1280], index: &[u16], word: &[u8])
     requires { Prepared table.now seen.now index.now }
     ensures { result ≡ held_in table.now word.now }
 {
-    let k = key(word);
-    if seen[k] == 0 {
+    if seen[key(word)] == 0 {
         return false;
     }
-    if 0 < index.len() {
-        if !probe(table, index, word) {
-            return false;
-        }
+    if !index.is_empty() && !probe(table, index, word) {
+        return false;
     }
     holds(table, word)
 }

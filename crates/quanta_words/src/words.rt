@@ -1,47 +1,37 @@
 // The records of the word table.
-ghost use Rattle.std.specs.Prelude.{◌≡◌, ◌≤◌, length};
-ghost use Rattle.quanta_words.specs.Words.{after_at, is_word, record_at, bad_in, held_in};
+ghost use Rattle.std.specs.Prelude.{◌≡◌, true, false, ◌<◌, length, MatchOption};
+ghost use Rattle.quanta_words.specs.Words.{after_at, HasWord, is_word, record_at, bad_in, held_in};
 
-use quanta_token::bytes::{is_word_byte, is_word_start, peek};
-use quanta_token::text::same;
+use quanta_token::bytes::{is_word_byte, is_word_start};
 
-// The place after the record at i, by its length byte.
-pub fn after_at(table: &[u8], i: usize) -> usize
-    requires { i ≤ length table.now }
-    ensures { result ≡ after_at table.now i }
+// The word of the record at i by its length byte, unless the table ends before it does. The next record is behind the word.
+pub fn word_at(table: &[u8], i: usize) -> Option<&[u8]>
+    ensures { MatchOption result (length table.now < after_at table.now i) (λ w. HasWord table.now i w.now) }
 {
-    i + 3 + (peek(table, i + 2) as usize)
+    let record = table.get(i..)?;
+    let size = *record.get(2)? as usize;
+    record.get(3..3 + size)
 }
 
 // A letter or `_`, then letters, digits and `_`.
 fn is_word(word: &[u8]) -> bool
     ensures { result ≡ is_word word.now }
 {
-    if !is_word_start(peek(word, 0)) {
-        return false;
+    match word {
+        [first, rest @ ..] => is_word_start(*first) && rest.iter().all(|c| is_word_byte(*c)),
+        [] => false,
     }
-    let mut i = 1;
-    while i < word.len() {
-        if !is_word_byte(word[i]) {
-            return false;
-        }
-        i += 1;
-    }
-    true
 }
 
-// Whether a whole record stands at i: the mark, a length byte, and a word of that length.
-fn record_at(table: &[u8], i: usize) -> bool
-    requires { i ≤ length table.now }
-    ensures { result ≡ record_at table.now i }
+// The word of the record at i, if a whole one stands there: the mark, a length byte, and a word of that length.
+fn record_at(table: &[u8], i: usize) -> Option<&[u8]>
+    ensures { MatchOption result (record_at table.now i ≡ false) (λ w. (record_at table.now i ≡ true) × HasWord table.now i w.now) }
 {
-    let after = after_at(table, i);
-    if table.len() < after {
-        return false;
+    let word = word_at(table, i)?;
+    if (table[i] == b'F') & (table[i + 1] == b'W') & is_word(word) {
+        return Some(word);
     }
-    let text = i + 3;
-    let word = is_word(&table[text..after]);
-    (peek(table, i) == 0x46) & (peek(table, i + 1) == 0x57) & word
+    None
 }
 
 // The offset of the first bad record, or the table's length.
@@ -49,11 +39,8 @@ pub fn check_words(table: &[u8]) -> usize
     ensures { result ≡ bad_in table.now }
 {
     let mut i = 0;
-    while i < table.len() {
-        if !record_at(table, i) {
-            return i;
-        }
-        i = after_at(table, i);
+    while let Some(word) = record_at(table, i) {
+        i += 3 + word.len();
     }
     i
 }
@@ -63,15 +50,11 @@ pub fn holds(table: &[u8], word: &[u8]) -> bool
     ensures { result ≡ held_in table.now word.now }
 {
     let mut i = 0;
-    loop {
-        let after = after_at(table, i);
-        if table.len() < after {
-            return false;
-        }
-        let text = i + 3;
-        if same(word, &table[text..after]) {
+    while let Some(held) = word_at(table, i) {
+        if word == held {
             return true;
         }
-        i = after;
+        i += 3 + held.len();
     }
+    false
 }

@@ -9,7 +9,7 @@ use lib.Dec.{T, ltb, leb, eqb, leb-zero}
 use lib.ListN.{length, drop, get_or, length-drop, drop_of_length-le}
 use lib.Seq.{drop-cons, drop-drop}
 use borrow.Author.Tests.{lt-ltb, le-ltb, eq-eqb, ne_eqb, eqb-false}
-use Rattle.utf8.specs.declared.Found.TheVariants.{At, AllWell}
+use Rattle.std.specs.Prelude.{Some, None}
 use Rattle.utf8.specs.Utf8.{Octet, fits, form_len, char_len, utf8_char, bad_from}
 use Rattle.utf8.specs.Block.{ascii, every}
 
@@ -51,7 +51,7 @@ module _ (f : List Octet) (o : Octet) (s : List ℕ) (i : ℕ) {x : Bool} where
   pub grown : {r : Bool} → x ≡ true → x ≡ fits f (drop i s) → r ≡ fits (o ∷ []) (drop (i + length f) s) → r ≡ fits (f ++ (o ∷ [])) (drop i s)
   grown t e h = rw (fits_append f (o ∷ []) (drop i s), ← e, t, drop-drop) h
 
-  pub stopped : x ≡ false → x ≡ fits f (drop i s) → false ≡ fits (f ++ (o ∷ [])) (drop i s)
+  pub stopped : x ≡ false → x ≡ fits f (drop i s) → x ≡ fits (f ++ (o ∷ [])) (drop i s)
   stopped t e = rw (fits_append f (o ∷ []) (drop i s), ← e, t)
 
 -- the form at k, and those from k on
@@ -119,7 +119,7 @@ ascii_one s i h a = rw (drop-cons s i 0 h, leb-zero, a)
 
 module _ (s : List ℕ) where
   -- past the end no turn finds anything
-  pub past : (n i : ℕ) → length s ≤ i → bad_from n s i ≡ AllWell
+  pub past : (n i : ℕ) → length s ≤ i → bad_from n s i ≡ None
   unfolding bad_from
   past zero i h = refl
   past (suc n) i h = rw (le-ltb i (length s) h)
@@ -130,12 +130,12 @@ module _ (s : List ℕ) where
   enough zero m i g h = sym (past m i (omega arith))
   enough (suc n) zero i g h = past (suc n) i (omega arith)
   enough (suc n) (suc m) i g h =
-      ap (λ f. cond (ltb i (length s)) f AllWell)
-      (by_test (λ b. cond b (At i) (bad_from n s (i + char_len s i)) ≡ cond b (At i) (bad_from m s (i + char_len s i))) (eqb (char_len s i) 0)
+      ap (λ f. cond (ltb i (length s)) f None)
+      (by_test (λ b. cond b (Some i) (bad_from n s (i + char_len s i)) ≡ cond b (Some i) (bad_from m s (i + char_len s i))) (eqb (char_len s i) 0)
       (λ y. refl)
       (λ e. let z : char_len s i ≡ 0 → ⊥ = eqb-false (char_len s i) 0 e in enough n m (i + char_len s i) (omega arith) (omega arith)))
 
-  pub stop : (n i : ℕ) → i < length s → length s ≤ i + n → char_len s i ≡ 0 → bad_from n s i ≡ At i
+  pub stop : (n i : ℕ) → i < length s → length s ≤ i + n → char_len s i ≡ 0 → bad_from n s i ≡ Some i
   unfolding bad_from
   stop zero i g h e = absurd (omega arith)
   stop (suc n) i g h e = rw (lt-ltb i (length s) g, eq-eqb (char_len s i) 0 e)

@@ -9,7 +9,7 @@ use lib.Dec.{T, leb, ltb, eqb}
 use lib.ListN.{length, take, drop, length-append, length-drop, take-append-drop, drop_of_length-le}
 use lib.Seq.{take-add, drop-drop, drop-append_seam, length-take-le}
 use borrow.Author.Tests.{ltb-true, ltb-false, eqb-true, eqb-false, leb-true, lt-leb}
-use Rattle.utf8.specs.declared.Found.TheVariants.{At, AllWell}
+use Rattle.std.specs.Prelude.{Some, None}
 use Rattle.utf8.specs.Utf8.{Octet, fits, form_len, utf8_char, char_len, bad_from, Char, Octets, none, more}
 use Rattle.utf8.proofs.Laws.{both, by_test, fits_inside, next}
 
@@ -141,13 +141,13 @@ over (more {w} {s = t} x o) s r i n e h =
     ∙ ap (bad_from n s) (omega (arith, length-append w t))
 
 -- where nothing is found the rest is sequence after sequence
-pub rest : (n : ℕ) (s : List ℕ) (i : ℕ) → length s ≤ i + n → bad_from n s i ≡ AllWell → Octets (drop i s)
+pub rest : (n : ℕ) (s : List ℕ) (i : ℕ) → length s ≤ i + n → bad_from n s i ≡ None → Octets (drop i s)
 unfolding bad_from
 rest zero s i h e = rw (drop_of_length-le s {i = i} (omega arith)) none
 rest (suc n) s i h e =
-    by_test (λ b. ltb i (length s) ≡ b → cond b (cond (eqb (char_len s i) 0) (At i) (bad_from n s (i + char_len s i))) AllWell ≡ AllWell → Octets (drop i s)) (ltb i (length s))
+    by_test (λ b. ltb i (length s) ≡ b → cond b (cond (eqb (char_len s i) 0) (Some i) (bad_from n s (i + char_len s i))) None ≡ None → Octets (drop i s)) (ltb i (length s))
     (λ y l g.
-    by_test (λ b. eqb (char_len s i) 0 ≡ b → cond b (At i) (bad_from n s (i + char_len s i)) ≡ AllWell → Octets (drop i s)) (eqb (char_len s i) 0)
+    by_test (λ b. eqb (char_len s i) 0 ≡ b → cond b (Some i) (bad_from n s (i + char_len s i)) ≡ None → Octets (drop i s)) (eqb (char_len s i) 0)
     (λ _ z k. absurd (let no : ◌≡◌ {A = ℕ} 0 1 = cc in omega arith))
     (λ _ z k.
     let q : char_len s i ≡ 0 → ⊥ = eqb-false (char_len s i) 0 z in
@@ -163,13 +163,13 @@ pub record Upto (s : List ℕ) (i j : ℕ) : Type 0 where
   pub before : Octets (take (j - i) (drop i s))
   pub starts_none : char_len s j ≡ 0
 
-pub upto : (n : ℕ) (s : List ℕ) (i j : ℕ) → bad_from n s i ≡ At j → Upto s i j
+pub upto : (n : ℕ) (s : List ℕ) (i j : ℕ) → bad_from n s i ≡ Some j → Upto s i j
 unfolding bad_from
 upto zero s i j e = absurd (let no : ◌≡◌ {A = ℕ} 0 1 = cc in omega arith)
 upto (suc n) s i j e =
-    by_test (λ b. ltb i (length s) ≡ b → cond b (cond (eqb (char_len s i) 0) (At i) (bad_from n s (i + char_len s i))) AllWell ≡ At j → Upto s i j) (ltb i (length s))
+    by_test (λ b. ltb i (length s) ≡ b → cond b (cond (eqb (char_len s i) 0) (Some i) (bad_from n s (i + char_len s i))) None ≡ Some j → Upto s i j) (ltb i (length s))
     (λ y l g.
-    by_test (λ b. eqb (char_len s i) 0 ≡ b → cond b (At i) (bad_from n s (i + char_len s i)) ≡ At j → Upto s i j) (eqb (char_len s i) 0)
+    by_test (λ b. eqb (char_len s i) 0 ≡ b → cond b (Some i) (bad_from n s (i + char_len s i)) ≡ Some j → Upto s i j) (eqb (char_len s i) 0)
     (λ _ z k.
     let here : i ≡ j = cc in
     let q : char_len s i ≡ 0 = eqb-true (char_len s i) 0 z in

@@ -1,8 +1,6 @@
 -- UTF-8 by the ABNF of RFC 3629, section 4.
-use Rattle.std.specs.Prelude.{ℕ, zero, suc, ◌+◌, ◌<◌, Bool, true, false, ◌&&◌, cond, ◌≡◌, leb, ltb, eqb, length, take, drop}
+use Rattle.std.specs.Prelude.{ℕ, zero, suc, ◌+◌, ◌<◌, Bool, true, false, ◌&&◌, cond, ◌≡◌, leb, ltb, eqb, length, take, drop, Option, Some, None}
 use mathlib.Core.List.{List, [], ◌∷◌, ◌++◌, Memᴰ}
-use Rattle.utf8.specs.declared.Found.{Found}
-use Rattle.utf8.specs.declared.Found.TheVariants.{At, AllWell}
 
 -- %xLOW-HIGH: one byte of that range
 pub record Octet : Type 0 where
@@ -65,13 +63,13 @@ form_len (f ∷ fs) s = cond (fits f s) (length f) (form_len fs s)
 abbrev pub char_len : List ℕ → ℕ → ℕ
 char_len s i = form_len utf8_char (drop i s)
 
--- taking sequence after sequence from i on, n at most: the first offset where none starts
-unfoldable pub bad_from : ℕ → List ℕ → ℕ → Found
-bad_from zero s i = AllWell
-bad_from (suc n) s i = cond (ltb i (length s)) (cond (eqb (char_len s i) 0) (At i) (bad_from n s (i + char_len s i))) AllWell
+-- taking sequence after sequence from i on, n at most: the first offset where none starts, if there is one
+unfoldable pub bad_from : ℕ → List ℕ → ℕ → Option ℕ
+bad_from zero s i = None
+bad_from (suc n) s i = cond (ltb i (length s)) (cond (eqb (char_len s i) 0) (Some i) (bad_from n s (i + char_len s i))) None
 
 -- the first offset where no well-formed sequence starts; a text has no more sequences than bytes
-abbrev pub first_bad : List ℕ → Found
+abbrev pub first_bad : List ℕ → Option ℕ
 first_bad s = bad_from (length s) s 0
 
 -- w is one well-formed sequence

@@ -5,21 +5,14 @@ ghost use Rattle.std.specs.Prelude.{◌≡◌, [], ◌∷◌, ◌<◌, ◌≤◌
 ghost use Rattle.utf8.specs.Utf8.{◌to◌, tail, utf8_3, utf8_4, fits, form_len, char_len, first_bad};
 ghost use Rattle.utf8.specs.Block.{ascii, every};
 
-#[derive(Clone, Copy)]
-pub enum Found {
-    At(usize),
-    AllWell,
-}
-
 // Whether a byte from low to high stands at i.
 fn octet(s: &[u8], i: usize, low: u8, high: u8) -> bool
     ensures { result ≡ fits (low to high ∷ []) (drop i s.now) }
 {
-    if i < s.len() {
-        let c = s[i];
-        return (low <= c) & (c <= high);
+    match s.get(i) {
+        Some(&c) => (low <= c) & (c <= high),
+        None => false,
     }
-    false
 }
 
 // Whether a byte of the first range stands at i, and then one of the second.
@@ -27,10 +20,7 @@ fn two(s: &[u8], i: usize, low: u8, high: u8, low2: u8, high2: u8) -> bool
     requires { i < length s.now }
     ensures { result ≡ fits (low to high ∷ low2 to high2 ∷ []) (drop i s.now) }
 {
-    if octet(s, i, low, high) {
-        return octet(s, i + 1, low2, high2);
-    }
-    false
+    octet(s, i, low, high) && octet(s, i + 1, low2, high2)
 }
 
 // The same with one UTF8-tail behind them.
@@ -38,10 +28,7 @@ fn three(s: &[u8], i: usize, low: u8, high: u8, low2: u8, high2: u8) -> bool
     requires { i < length s.now }
     ensures { result ≡ fits (low to high ∷ low2 to high2 ∷ tail ∷ []) (drop i s.now) }
 {
-    if two(s, i, low, high, low2, high2) {
-        return octet(s, i + 2, 0x80, 0xBF);
-    }
-    false
+    two(s, i, low, high, low2, high2) && octet(s, i + 2, 0x80, 0xBF)
 }
 
 // The same with two behind them.
@@ -49,10 +36,7 @@ fn four(s: &[u8], i: usize, low: u8, high: u8, low2: u8, high2: u8) -> bool
     requires { i < length s.now }
     ensures { result ≡ fits (low to high ∷ low2 to high2 ∷ tail ∷ tail ∷ []) (drop i s.now) }
 {
-    if three(s, i, low, high, low2, high2) {
-        return octet(s, i + 3, 0x80, 0xBF);
-    }
-    false
+    three(s, i, low, high, low2, high2) && octet(s, i + 3, 0x80, 0xBF)
 }
 
 // UTF8-3: 3, or 0 where none stands at i.
@@ -116,16 +100,14 @@ fn ascii_block(s: &[u8], i: usize) -> bool
     ensures { result ≡ every ascii 32 s.now i }
 {
     let mut all = true;
-    let mut k = 0;
-    while k < 32 {
-        all = all & (s[i + k] <= 0x7F);
-        k += 1;
+    for c in &s[i..i + 32] {
+        all &= *c <= 0x7F;
     }
     all
 }
 
 // Where the first byte stands at which no well-formed sequence starts. A block that is not all ASCII is read sequence by sequence.
-pub fn first_bad(s: &[u8]) -> Found
+pub fn first_bad(s: &[u8]) -> Option<usize>
     ensures { result ≡ first_bad s.now }
 {
     let mut i = 0;
@@ -133,18 +115,16 @@ pub fn first_bad(s: &[u8]) -> Found
     while i < s.len() {
         if block <= i {
             block = i + 32;
-            if block <= s.len() {
-                if ascii_block(s, i) {
-                    i = block;
-                    continue;
-                }
+            if block <= s.len() && ascii_block(s, i) {
+                i = block;
+                continue;
             }
         }
         let n = char_len(s, i);
         if n == 0 {
-            return Found::At(i);
+            return Some(i);
         }
         i += n;
     }
-    Found::AllWell
+    None
 }

@@ -1,29 +1,26 @@
 use mathlib.Core.Path.{◌≡◌, refl, ap, ◌∙◌}
+use Prim.Native.Nat.{◌+◌, ◌-◌, ◌<◌}
 use native.Mathlib.Omega.{arith}
+use lib.ListN.{drop, length-drop}
+use Rattle.std.proofs.lemmas.List.{get_or-take, get_or-drop, length-take}
 use Rattle.utf8.specs.Block.{ascii, every}
 use Rattle.utf8.proofs.Laws.{every_next}
 use Rattle.utf8.proofs.ascii_block.Goals as goal
 
-pub loop-k-init : goal.loop-k-init
+pub loop-c-init : goal.loop-c-init
 unfolding every
-loop-k-init c = (omega arith, refl)
+loop-c-init c = refl
 
-pub overflow_add-all : goal.overflow_add-all
-overflow_add-all c = omega arith
-
-pub bounds-s-i : goal.bounds-s-i
-bounds-s-i c = omega arith
-
-pub overflow_add-k : goal.overflow_add-k
-overflow_add-k c = omega arith
-
-pub loop-k-smaller : goal.loop-k-smaller
-loop-k-smaller c = omega arith
-
-pub loop-k-preserved : goal.loop-k-preserved
-loop-k-preserved c = (omega arith, every_next _ ascii _ _ c.loop-k.invariant.1 refl)
+pub loop-c-preserved : goal.loop-c-preserved
+loop-c-preserved c =
+    let a = c.args in
+    let k = c.loop-c.c-index in
+    let inside : k < a.i + 32 - a.i = omega (arith, c.loop-c-test.true, length-take (a.i + 32 - a.i) (drop a.i a.s.now)) in
+    every_next _ ascii _ _ c.loop-c.invariant
+    (ap ascii (get_or-take (a.i + 32 - a.i) (drop a.i a.s.now) k 0 inside ∙ get_or-drop a.i a.s.now k 0))
 
 pub returns : goal.returns
 returns c =
-    let all : c.loop-k.k ≡ 32 = omega arith in
-    c.loop-k.invariant.1 ∙ ap (λ n. every ascii n c.args.s.now c.args.i) all
+    let a = c.args in
+    let all : c.loop-c.c-index ≡ 32 = omega (arith, length-take (a.i + 32 - a.i) (drop a.i a.s.now), length-drop a.i a.s.now) in
+    c.loop-c.invariant ∙ ap (λ n. every ascii n a.s.now a.i) all

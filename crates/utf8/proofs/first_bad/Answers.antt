@@ -7,23 +7,11 @@ use Rattle.utf8.proofs.first_bad.Goals as goal
 pub loop-i-init : goal.loop-i-init
 loop-i-init c = (omega arith, refl)
 
-pub overflow_add-block : goal.overflow_add-block
-overflow_add-block c = omega arith
-
-pub ascii_block-requires : goal.ascii_block-requires
-ascii_block-requires c = omega arith
-
-pub loop-i-smaller-then-ascii_block : goal.loop-i-smaller-then-ascii_block
-loop-i-smaller-then-ascii_block c = omega arith
-
 pub loop-i-preserved-then-ascii_block : goal.loop-i-preserved-then-ascii_block
 loop-i-preserved-then-ascii_block c =
     let s = c.args.s.now in
     let l = c.loop-i in
     (omega arith, l.invariant.1 ∙ past_ascii s 32 (length s) l.i (omega arith) (omega arith) (sym c.ascii_block.ensures ∙ c.if-ascii_block.true))
-
-pub char_len-n-requires : goal.char_len-n-requires
-char_len-n-requires c = omega arith
 
 pub returns-then-n-eq0 : goal.returns-then-n-eq0
 returns-then-n-eq0 c =
@@ -33,9 +21,6 @@ returns-then-n-eq0 c =
 
 pub overflow_add-i : goal.overflow_add-i
 overflow_add-i c = omega (arith, char_inside c.args.s.now c.loop-i.i c.loop-i.invariant.0, c.char_len-n.ensures)
-
-pub loop-i-smaller : goal.loop-i-smaller
-loop-i-smaller c = omega arith
 
 pub loop-i-preserved : goal.loop-i-preserved
 loop-i-preserved c =

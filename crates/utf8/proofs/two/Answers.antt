@@ -8,5 +8,7 @@ returns-then-octet c =
     let a = c.args in
     grown (a.low to a.high ∷ []) (a.low2 to a.high2) a.s.now a.i c.if-octet.true c.octet.ensures c.octet-then-octet.ensures
 
-pub returns : goal.returns
-returns c = let a = c.args in stopped (a.low to a.high ∷ []) (a.low2 to a.high2) a.s.now a.i c.if-octet.false c.octet.ensures
+pub returns-else-octet : goal.returns-else-octet
+returns-else-octet c =
+    let a = c.args in
+    stopped (a.low to a.high ∷ []) (a.low2 to a.high2) a.s.now a.i c.if-octet.false c.octet.ensures

@@ -3,10 +3,11 @@
 use Prim.Native.Nat.{ℕ, ◌≤◌}
 use mathlib.Core.List.{List}
 use lib.ListN.{length}
+use Rattle.std.specs.Prelude.{Err}
 use Rattle.quanta_token.specs.declared.edition.Edition.{Edition}
 use Rattle.quanta_words.specs.Words.{bad_in}
 use Rattle.quanta_lexer.specs.Refusals.{source_limit, table_limit}
-use mathlib.Core.Path.{◌≡◌, sym, ◌∙◌}
+use mathlib.Core.Path.{◌≡◌, ap, sym, ◌∙◌}
 use native.Mathlib.Omega.{arith}
 use borrow.Author.Tests.{lt-ltb, le-ltb}
 use Rattle.utf8.specs.Utf8.{first_bad}
@@ -31,7 +32,7 @@ pub returns-then-bad-words : goal.returns-then-bad-words
 unfolding reading or_else
 returns-then-bad-words c =
     let short : length c.args.words.now ≤ table_limit = omega arith in
-    let e = c.stopped-then-bad-words.ensures in (
+    let e = c.refused-then-bad-words.ensures in (
       rw (le-ltb _ _ short, ← c.check_words-bad.ensures, lt-ltb _ _ c.if-bad-words.true) e,
       unwritten _ _ _ e,
     )
@@ -40,7 +41,7 @@ pub returns-then-src-gt-SOURCE_LIMIT : goal.returns-then-src-gt-SOURCE_LIMIT
 unfolding reading or_else
 returns-then-src-gt-SOURCE_LIMIT c =
     let short : length c.args.words.now ≤ table_limit = omega arith in
-    let e = c.stopped-then-src-gt-SOURCE_LIMIT.ensures in
+    let e = c.refused-then-src-gt-SOURCE_LIMIT.ensures in
     let well = le-ltb _ _ c.if-bad-words.false in (
       rw (le-ltb _ _ short, ← c.check_words-bad.ensures, well, lt-ltb _ _ c.if-src-gt-SOURCE_LIMIT.true) e,
       unwritten _ _ _ e,
@@ -48,63 +49,63 @@ returns-then-src-gt-SOURCE_LIMIT c =
 
 pub overflow_add-i : goal.overflow_add-i
 overflow_add-i c =
-    omega (arith, bad_place c.args.src.now _ (sym c.first_bad.ensures ∙ c.in-At.is))
+    omega (arith, bad_place c.args.src.now _ (sym c.first_bad.ensures ∙ c.in-Some.is))
 
-pub returns-in-At : goal.returns-in-At
+pub returns-in-Some : goal.returns-in-Some
 unfolding well_or
-returns-in-At c =
+returns-in-Some c =
     let short : length c.args.words.now ≤ table_limit = omega arith in
-    let e = c.stopped-in-At.ensures in
+    let e = c.refused-in-Some.ensures in
     let late =
     past-limits c.args.edition _ _ _ short c.check_words-bad.ensures c.if-bad-words.false
     c.if-src-gt-SOURCE_LIMIT.false in (
-      rw (late, sym c.first_bad.ensures ∙ c.in-At.is) e,
+      rw (late, sym c.first_bad.ensures ∙ c.in-Some.is) e,
       unwritten _ _ _ e,
     )
 
-pub overflow_add-i-in-CarriageReturn : goal.overflow_add-i-in-CarriageReturn
-overflow_add-i-in-CarriageReturn c =
-    omega (arith, return_place c.args.src.now _ (sym c.check_source.ensures ∙ c.in-CarriageReturn.is))
+pub overflow_add-i-in-Err-CarriageReturn : goal.overflow_add-i-in-Err-CarriageReturn
+overflow_add-i-in-Err-CarriageReturn c =
+    omega (arith, return_place c.args.src.now _ (sym c.check_source.ensures ∙ c.in-Err-CarriageReturn.is ∙ ap Err c.in-Err-CarriageReturn.field-0-is))
 
-pub overflow_add-i-in-Barred : goal.overflow_add-i-in-Barred
-overflow_add-i-in-Barred c =
-    omega (arith, barred_place c.args.src.now _ (sym c.check_source.ensures ∙ c.in-Barred.is))
+pub overflow_add-i-in-Err-Barred : goal.overflow_add-i-in-Err-Barred
+overflow_add-i-in-Err-Barred c =
+    omega (arith, barred_place c.args.src.now _ (sym c.check_source.ensures ∙ c.in-Err-Barred.is ∙ ap Err c.in-Err-Barred.field-0-is))
 
-pub returns-in-CarriageReturn : goal.returns-in-CarriageReturn
+pub returns-in-Err-CarriageReturn : goal.returns-in-Err-CarriageReturn
 unfolding well_or clean_or
-returns-in-CarriageReturn c =
+returns-in-Err-CarriageReturn c =
     let short : length c.args.words.now ≤ table_limit = omega arith in
-    let e = c.stopped-in-CarriageReturn.ensures in
+    let e = rw c.in-Err-CarriageReturn.field-0-is at c.refused-in-Err-CarriageReturn.ensures in
     let well = sym c.first_bad.ensures ∙ c.in_default.is in
     let late =
     past-limits c.args.edition _ _ _ short c.check_words-bad.ensures c.if-bad-words.false
     c.if-src-gt-SOURCE_LIMIT.false in (
-      rw (late, well, sym c.check_source.ensures ∙ c.in-CarriageReturn.is) e,
+      rw (late, well, sym c.check_source.ensures ∙ c.in-Err-CarriageReturn.is ∙ ap Err c.in-Err-CarriageReturn.field-0-is) e,
       unwritten _ _ _ e,
     )
 
-pub returns-in-Barred : goal.returns-in-Barred
+pub returns-in-Err-Barred : goal.returns-in-Err-Barred
 unfolding well_or clean_or
-returns-in-Barred c =
+returns-in-Err-Barred c =
     let short : length c.args.words.now ≤ table_limit = omega arith in
-    let e = c.stopped-in-Barred.ensures in
+    let e = rw c.in-Err-Barred.field-0-is at c.refused-in-Err-Barred.ensures in
     let well = sym c.first_bad.ensures ∙ c.in_default.is in
     let late =
     past-limits c.args.edition _ _ _ short c.check_words-bad.ensures c.if-bad-words.false
     c.if-src-gt-SOURCE_LIMIT.false in (
-      rw (late, well, sym c.check_source.ensures ∙ c.in-Barred.is) e,
+      rw (late, well, sym c.check_source.ensures ∙ c.in-Err-Barred.is ∙ ap Err c.in-Err-Barred.field-0-is) e,
       unwritten _ _ _ e,
     )
 
-pub returns-in-Clean : goal.returns-in-Clean
+pub returns-in-Ok : goal.returns-in-Ok
 unfolding well_or clean_or
-returns-in-Clean c =
+returns-in-Ok c =
     let short : length c.args.words.now ≤ table_limit = omega arith in
     let read = c.run_by_size.ensures in
     let well = sym c.first_bad.ensures ∙ c.in_default.is in
     let late =
     past-limits c.args.edition _ _ _ short c.check_words-bad.ensures c.if-bad-words.false
     c.if-src-gt-SOURCE_LIMIT.false in (
-      rw (late, well, sym c.check_source.ensures ∙ c.in-Clean.is) read.0,
+      rw (late, well, sym c.check_source.ensures ∙ c.in-Ok.is) read.0,
       written _ _ _ _ read.0 read.1,
     )

@@ -6,8 +6,8 @@ use lib.ListN.{length}
 use Rattle.quanta_lexer.proofs.TokensLaws.{Going}
 use Rattle.quanta_lexer.proofs.lexer.run.Given as goal
 
-abbrev pub invariant-loop-tokens : goal.invariant-loop-tokens
-invariant-loop-tokens l = Going l.edition l.src l.words l.initial.tokens l.tokens l.n l.i
+abbrev pub invariant-loop-token : goal.invariant-loop-token
+invariant-loop-token l = Going l.edition l.src l.words l.initial.tokens l.tokens l.n l.i.0
 
-abbrev pub decreases-loop-tokens : goal.decreases-loop-tokens
-decreases-loop-tokens l = length l.src - l.i
+abbrev pub decreases-loop-token : goal.decreases-loop-token
+decreases-loop-token l = length l.src - l.i.0

@@ -11,20 +11,20 @@ pub returns-then-tokens-n : goal.returns-then-tokens-n
 returns-then-tokens-n c =
     let w = length c.args.tokens.now in
     let room : length c.read_source.new.tokens ≡ w = omega arith in
-    let a = is_short _ _ _ w _ c.read_source.ensures.0 _ c.in-Tokens.is (omega arith) in
-    (a, c.clear-then-tokens-n.ensures ∙ words_short _ _ _ w _ room a)
+    let a = is_short _ _ _ w _ c.read_source.ensures.0 _ c.in-Ok.is (omega arith) in
+    (a, c.fill-then-tokens-n.ensures.after (λ y h. h) ∙ words_short _ _ _ w _ room a)
 
-pub returns-in-Stopped : goal.returns-in-Stopped
-returns-in-Stopped c =
+pub returns-in-Err : goal.returns-in-Err
+returns-in-Err c =
     let w = length c.args.tokens.now in
     let room : length c.read_source.new.tokens ≡ w = omega arith in
-    let a = is_refused _ _ _ w _ c.read_source.ensures.0 _ _ _ c.in-Stopped.is in
-    (a, c.clear.ensures ∙ words_refused _ _ _ w _ _ _ room a)
+    let a = is_refused _ _ _ w _ c.read_source.ensures.0 _ c.in-Err.is in
+    (a, c.fill.ensures.after (λ y h. h) ∙ words_refused _ _ _ w _ room a)
 
 pub returns-else-tokens-n : goal.returns-else-tokens-n
 returns-else-tokens-n c =
     let w = length c.args.tokens.now in
     let room : length c.read_source.new.tokens ≡ w = omega arith in
-    let written = rw c.in-Tokens.is at c.read_source.ensures.1 in
-    let a = is_accepted _ _ _ w _ c.read_source.ensures.0 _ c.in-Tokens.is (omega arith) in
-    (a, words_accepted _ _ _ w _ _ _ _ room (omega arith) written c.clear-in-Tokens.ensures a)
+    let written = rw c.in-Ok.is at c.read_source.ensures.1 in
+    let a = is_accepted _ _ _ w _ c.read_source.ensures.0 _ c.in-Ok.is (omega arith) in
+    (a, words_accepted _ _ _ w _ _ _ _ room (omega arith) written (c.fill-in-Ok.ensures.after (λ y h. h)) a)

@@ -5,4 +5,4 @@ use Rattle.quanta_token.proofs.ByteLaws.{digit_class}
 use Rattle.quanta_lexer.proofs.scan.is_digit_at.Goals as goal
 
 pub returns : goal.returns
-returns c = rw c.class.ensures (digit_class c.peek.result (omega arith) ∙ ap digit c.peek.ensures)
+returns c = rw (c.eq.ensures, c.class.ensures) (digit_class c.peek.result (omega arith) ∙ ap digit c.peek.ensures)

@@ -1,9 +1,10 @@
 -- The chart's class of the first byte picks the case.
 use Prim.Native.Nat.{◌<◌}
+use mathlib.Core.Path.{sym, ◌∙◌}
 use lib.ListN.{get_or}
 use native.Mathlib.Omega.{arith}
-use borrow.Author.Tests.{eq-eqb, ne_eqb, lt-ltb, le-ltb}
-use Rattle.quanta_token.proofs.ByteLaws.{word_start_class, digit_class, quote_class}
+use borrow.Author.Tests.{lt-ltb, le-ltb}
+use Rattle.quanta_token.proofs.ByteLaws.{unlike, word_start_class, digit_class, quote_class}
 use Rattle.quanta_lexer.specs.Scan.{token_at, choose}
 use Rattle.quanta_lexer.proofs.scan.next_token.Goals as goal
 
@@ -11,54 +12,36 @@ pub returns-then-src-start : goal.returns-then-src-start
 unfolding token_at choose
 returns-then-src-start c = rw (le-ltb _ _ c.if-src-start.true)
 
-pub returns-then-k-eq-WORD_START : goal.returns-then-k-eq-WORD_START
+pub returns-in-WordStart : goal.returns-in-WordStart
 unfolding token_at choose
-returns-then-k-eq-WORD_START c =
+returns-in-WordStart c =
     let b : get_or c.args.src.now c.args.at.0 0 < 256 = omega (arith, c.type_inv.src c.args.at.0) in
-    rw (lt-ltb _ _ c.if-src-start.false, ← word_start_class _ b, ← c.class-k.ensures, eq-eqb _ _ c.if-k-eq-WORD_START.true) c.scan_word.ensures
+    let k = sym c.class.ensures ∙ c.in-WordStart.is in
+    rw (lt-ltb _ _ c.if-src-start.false, ← word_start_class _ b, k) c.scan_word.ensures
 
-pub returns-then-k-eq-DIGIT : goal.returns-then-k-eq-DIGIT
+pub returns-in-Digit : goal.returns-in-Digit
 unfolding token_at choose
-returns-then-k-eq-DIGIT c =
+returns-in-Digit c =
     let b : get_or c.args.src.now c.args.at.0 0 < 256 = omega (arith, c.type_inv.src c.args.at.0) in
-    rw (
-      lt-ltb _ _ c.if-src-start.false,
-      ← word_start_class _ b,
-      ← digit_class _ b,
-      ← c.class-k.ensures,
-      ne_eqb _ _ c.if-k-eq-WORD_START.false,
-      eq-eqb _ _ c.if-k-eq-DIGIT.true,
-    )
-    c.scan_number.ensures
+    let k = sym c.class.ensures ∙ c.in-Digit.is in
+    rw (lt-ltb _ _ c.if-src-start.false, ← word_start_class _ b, ← digit_class _ b, k) c.scan_number.ensures
 
-pub returns-then-k-eq-QUOTE : goal.returns-then-k-eq-QUOTE
+pub returns-in-Quote : goal.returns-in-Quote
 unfolding token_at choose
-returns-then-k-eq-QUOTE c =
+returns-in-Quote c =
     let b : get_or c.args.src.now c.args.at.0 0 < 256 = omega (arith, c.type_inv.src c.args.at.0) in
-    rw (
-      lt-ltb _ _ c.if-src-start.false,
-      ← word_start_class _ b,
-      ← digit_class _ b,
-      ← quote_class _ b,
-      ← c.class-k.ensures,
-      ne_eqb _ _ c.if-k-eq-WORD_START.false,
-      ne_eqb _ _ c.if-k-eq-DIGIT.false,
-      eq-eqb _ _ c.if-k-eq-QUOTE.true,
-    )
+    let k = sym c.class.ensures ∙ c.in-Quote.is in
+    rw (lt-ltb _ _ c.if-src-start.false, ← word_start_class _ b, ← digit_class _ b, ← quote_class _ b, k)
     c.scan_string.ensures
 
-pub returns : goal.returns
+pub returns-in_default : goal.returns-in_default
 unfolding token_at choose
-returns c =
+returns-in_default c =
     let b : get_or c.args.src.now c.args.at.0 0 < 256 = omega (arith, c.type_inv.src c.args.at.0) in
     rw (
       lt-ltb _ _ c.if-src-start.false,
-      ← word_start_class _ b,
-      ← digit_class _ b,
-      ← quote_class _ b,
-      ← c.class-k.ensures,
-      ne_eqb _ _ c.if-k-eq-WORD_START.false,
-      ne_eqb _ _ c.if-k-eq-DIGIT.false,
-      ne_eqb _ _ c.if-k-eq-QUOTE.false,
+      sym (word_start_class _ b) ∙ unlike _ _ _ c.class.ensures c.in_default.not-WordStart,
+      sym (digit_class _ b) ∙ unlike _ _ _ c.class.ensures c.in_default.not-Digit,
+      sym (quote_class _ b) ∙ unlike _ _ _ c.class.ensures c.in_default.not-Quote,
     )
     c.scan_symbol.ensures

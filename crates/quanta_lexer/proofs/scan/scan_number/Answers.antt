@@ -12,4 +12,4 @@ returns-then-src-start c = rw (← c.run_end-end.ensures, sym c.is_date_at.ensur
 
 pub returns : goal.returns
 unfolding number_at choose
-returns c = rw (← c.run_end-end.ensures, sym c.is_date_at.ensures ∙ c.if-is_date_at.false, c.if-src-start.false) c.token.ensures
+returns c = rw (← c.run_end-end.ensures, sym c.is_date_at.ensures ∙ c.if-is_date_at.false, c.if-src-start.false) c.found.ensures

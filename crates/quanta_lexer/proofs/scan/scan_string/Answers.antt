@@ -10,7 +10,7 @@ overflow_add-quote c = let b = end_bounds _ _ _ _ (omega arith) c.run_end-quote.
 
 pub returns-then-peek-eq34 : goal.returns-then-peek-eq34
 unfolding string_at choose
-returns-then-peek-eq34 c = rw (← c.run_end-quote.ensures, eq-eqb _ _ (sym c.peek.ensures ∙ c.if-peek-eq34.true)) c.token.ensures
+returns-then-peek-eq34 c = rw (← c.run_end-quote.ensures, eq-eqb _ _ (sym c.peek.ensures ∙ c.if-peek-eq34.true)) c.found.ensures
 
 pub returns : goal.returns
 unfolding string_at choose

@@ -22,7 +22,7 @@ pub returns-then-is_dated : goal.returns-then-is_dated
 unfolding symbol_at choose
 returns-then-is_dated c =
     rw (← c.is_date_after.ensures, c.if-is_date_after.true, ← c.is_dated.ensures, c.if-is_dated.true)
-    c.token.ensures
+    c.found.ensures
 
 pub returns-then-is_date_after : goal.returns-then-is_date_after
 unfolding symbol_at choose
@@ -40,7 +40,7 @@ returns-then-two-ne-NO_KIND c =
       ← c.pair_kind-two.ensures,
       ne_eqb _ _ c.if-two-ne-NO_KIND.true,
     )
-    c.token-then-two-ne-NO_KIND.ensures
+    c.found-then-two-ne-NO_KIND.ensures
 
 pub returns-then-one-ne-NO_KIND : goal.returns-then-one-ne-NO_KIND
 unfolding symbol_at choose
@@ -54,7 +54,7 @@ returns-then-one-ne-NO_KIND c =
       ← c.single_kind-one.ensures,
       ne_eqb _ _ c.if-one-ne-NO_KIND.true,
     )
-    c.token-then-one-ne-NO_KIND.ensures
+    c.found-then-one-ne-NO_KIND.ensures
 
 pub returns : goal.returns
 unfolding symbol_at choose

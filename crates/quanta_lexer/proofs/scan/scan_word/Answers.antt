@@ -19,4 +19,4 @@ returns-then-is_forbidden c = rw (← c.run_end-end.ensures, sym c.is_forbidden.
 
 pub returns : goal.returns
 unfolding word_at choose
-returns c = rw (← c.run_end-end.ensures, sym c.is_forbidden.ensures ∙ c.if-is_forbidden.false, ← c.keyword_kind.ensures) c.token.ensures
+returns c = rw (← c.run_end-end.ensures, sym c.is_forbidden.ensures ∙ c.if-is_forbidden.false, ← c.keyword_kind.ensures) c.found.ensures

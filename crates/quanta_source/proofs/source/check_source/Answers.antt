@@ -4,26 +4,22 @@ use Rattle.quanta_source.proofs.Laws.{bare_stops, barred_stops, goes_on, at_end,
 use Rattle.quanta_source.proofs.source.check_source.Goals as goal
 
 pub loop-i-init : goal.loop-i-init
-loop-i-init c = (omega arith, goes_past _ _ c.skip_blocks-i.ensures.0 c.skip_blocks-i.ensures.1)
+loop-i-init c = goes_past _ _ c.skip_blocks-i.ensures.0 c.skip_blocks-i.ensures.1
 
 pub returns-then-bare_at : goal.returns-then-bare_at
-returns-then-bare_at c = sym (c.loop-i.invariant.1 ∙ bare_stops _ _ _ (omega arith) (sym c.bare_at.ensures ∙ c.if-bare_at.true))
+returns-then-bare_at c =
+    sym (c.loop-i.invariant ∙ bare_stops _ _ _ (omega arith) (sym c.bare_at.ensures ∙ c.if-bare_at.true))
 
 pub returns-then-barred_at : goal.returns-then-barred_at
 returns-then-barred_at c =
     let bare = sym c.bare_at.ensures ∙ c.if-bare_at.false in
-    sym (c.loop-i.invariant.1 ∙ barred_stops _ _ _ (omega arith) bare (sym c.barred_at.ensures ∙ c.if-barred_at.true))
-
-pub overflow_add-i : goal.overflow_add-i
-overflow_add-i c = omega arith
-
-pub loop-i-smaller : goal.loop-i-smaller
-loop-i-smaller c = omega arith
+    sym (c.loop-i.invariant ∙ barred_stops _ _ _ (omega arith) bare (sym c.barred_at.ensures ∙ c.if-barred_at.true))
 
 pub loop-i-preserved : goal.loop-i-preserved
 loop-i-preserved c =
     let bare = sym c.bare_at.ensures ∙ c.if-bare_at.false in
-    (omega arith, c.loop-i.invariant.1 ∙ goes_on _ _ _ _ (omega arith) (bare, sym c.barred_at.ensures ∙ c.if-barred_at.false))
+    let barred = sym c.barred_at.ensures ∙ c.if-barred_at.false in
+    c.loop-i.invariant ∙ goes_on _ _ _ _ (omega arith) (bare, barred)
 
 pub returns : goal.returns
-returns c = sym (c.loop-i.invariant.1 ∙ at_end _ _ _ (omega arith))
+returns c = sym (c.loop-i.invariant ∙ at_end _ _ _ (omega arith))

@@ -6,20 +6,8 @@ use Rattle.quanta_source.proofs.source.skip_blocks.Goals as goal
 pub loop-at-init : goal.loop-at-init
 loop-at-init c = c.past_first-at.ensures
 
-pub overflow_sub-src : goal.overflow_sub-src
-overflow_sub-src c = omega arith
-
-pub passes-requires : goal.passes-requires
-passes-requires c = omega arith
-
 pub returns-then-not-passes : goal.returns-then-not-passes
 returns-then-not-passes c = (omega arith, c.loop-at.invariant.1)
-
-pub overflow_add-at : goal.overflow_add-at
-overflow_add-at c = omega arith
-
-pub loop-at-smaller : goal.loop-at-smaller
-loop-at-smaller c = omega arith
 
 pub loop-at-preserved : goal.loop-at-preserved
 loop-at-preserved c =

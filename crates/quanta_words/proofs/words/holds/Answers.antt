@@ -1,39 +1,25 @@
 use Prim.Native.Nat.{suc}
-use mathlib.Core.Path.{◌≡◌, sym, ap, ◌∙◌}
-use mathlib.Core.Bool.{true, false}
+use mathlib.Core.Path.{sym, ◌∙◌}
 use lib.ListN.{length}
 use native.Mathlib.Omega.{arith}
-use Rattle.quanta_token.specs.Text.{same}
-use Rattle.quanta_words.specs.Words.{word_at}
-use Rattle.quanta_words.proofs.WordLaws.{held_all, held_stop, held_hit, held_more, word_part}
+use Rattle.quanta_words.proofs.WordLaws.{held_all, held_stop, held_hit, held_more, same_of}
 use Rattle.quanta_words.proofs.words.holds.Goals as goal
 
-pub loop-i-init : goal.loop-i-init
-loop-i-init c = (omega arith, (suc (length c.args.table.now), omega arith, held_all _ _))
+pub loop-held-init : goal.loop-held-init
+loop-held-init c = (omega arith, (suc (length c.args.table.now), omega arith, held_all _ _))
 
-pub returns-then-table-after : goal.returns-then-table-after
-returns-then-table-after c =
-    let inv = c.loop-i.invariant.1 in
-    sym (inv.2 ∙ held_stop inv.0 _ _ _ (omega arith))
+pub returns-then-eq : goal.returns-then-eq
+returns-then-eq c =
+    let inv = c.loop-held.invariant.1 in
+    let here = c.in-Some.ensures in
+    sym (inv.2 ∙ held_hit inv.0 _ _ _ inv.1 here.inside (same_of _ _ here c.eq.ensures c.if-eq.true))
 
-pub returns-then-same : goal.returns-then-same
-returns-then-same c =
-    let a = c.args in
-    let i = c.loop-i.i in
-    let inv = c.loop-i.invariant.1 in
-    let hit : same a.word.now (word_at a.table.now i) ≡ true =
-    ap (same a.word.now) (word_part _ i _ c.after_at-after.ensures) ∙ sym c.same.ensures ∙ c.if-same.true in
-    sym (inv.2 ∙ held_hit inv.0 _ i _ inv.1 (omega arith) hit)
+pub loop-held-preserved : goal.loop-held-preserved
+loop-held-preserved c =
+    let inv = c.loop-held.invariant.1 in
+    let here = c.in-Some.ensures in
+    let next = held_more inv.0 _ c.loop-held.i _ inv.1 here.inside (same_of _ _ here c.eq.ensures c.if-eq.false) in
+    rw here.next (here.inside, (next.0, next.1, inv.2 ∙ next.2))
 
-pub loop-i-smaller : goal.loop-i-smaller
-loop-i-smaller c = omega arith
-
-pub loop-i-preserved : goal.loop-i-preserved
-loop-i-preserved c =
-    let a = c.args in
-    let i = c.loop-i.i in
-    let inv = c.loop-i.invariant.1 in
-    let miss : same a.word.now (word_at a.table.now i) ≡ false =
-    ap (same a.word.now) (word_part _ i _ c.after_at-after.ensures) ∙ sym c.same.ensures ∙ c.if-same.false in
-    let next = held_more inv.0 a.table.now i a.word.now inv.1 (omega arith) miss in
-    (omega arith, rw c.after_at-after.ensures (next.0, next.1, inv.2 ∙ next.2))
+pub returns : goal.returns
+returns c = let inv = c.loop-held.invariant.1 in sym (inv.2 ∙ held_stop inv.0 _ _ _ c.in_default.ensures)

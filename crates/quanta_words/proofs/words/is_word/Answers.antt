@@ -1,19 +1,27 @@
-use mathlib.Core.Path.{sym, ap, ◌∙◌}
-use Rattle.quanta_token.specs.Bytes.{word_start}
-use Rattle.quanta_words.proofs.WordLaws.{word_starts, word_none, all_more, all_stop, all_past}
+use mathlib.Core.Path.{sym, ◌∙◌}
+use Prim.Native.Nat.{◌-◌}
+use lib.ListN.{length, drop, length-drop}
+use native.Mathlib.Omega.{arith}
+use borrow.Author.Rules.{rules}
+use borrow.Author.Tests.{tests}
+use Rattle.std.proofs.lemmas.List.{take_all}
+use Rattle.std.proofs.lemmas.Iterator.{YieldsList-from_slice}
+use Rattle.std.proofs.lemmas.Iterator.Search.{all_from_yields_List}
+use Rattle.quanta_token.specs.Bytes.{word_byte}
+use Rattle.quanta_words.proofs.WordLaws.{word_empty, word_starts, word_none}
 use Rattle.quanta_words.proofs.words.is_word.Goals as goal
 
-pub returns-then-not-is_word_start : goal.returns-then-not-is_word_start
-returns-then-not-is_word_start c = sym (word_none _ (ap word_start (sym c.peek.ensures) ∙ sym c.is_word_start.ensures ∙ c.if-not-is_word_start.true))
+pub returns-in-empty : goal.returns-in-empty
+returns-in-empty c = sym (word_empty _ c.in-empty.len_below)
 
-pub loop-i-init : goal.loop-i-init
-loop-i-init c = word_starts _ (ap word_start (sym c.peek.ensures) ∙ sym c.is_word_start.ensures ∙ c.if-not-is_word_start.false)
+pub returns-then-is_word_start : goal.returns-then-is_word_start
+returns-then-is_word_start c =
+    let w = c.args.word.now in
+    let rest = c.iter.ensures.rest ∙ take_all (length w - 1) (drop 1 w) (omega (arith, length-drop 1 w)) in
+    all_from_yields_List word_byte _ _ _ c.all.ensures.ran (YieldsList-from_slice (drop 1 w) rest)
+    (λ x b q k. search (rules, tests))
+    ∙ sym (word_starts w (sym c.is_word_start.ensures ∙ c.if-is_word_start.true))
 
-pub returns-then-not-is_word_byte : goal.returns-then-not-is_word_byte
-returns-then-not-is_word_byte c = sym (c.loop-i.invariant ∙ all_stop _ _ _ c.loop-i-test.true (sym c.is_word_byte.ensures ∙ c.if-not-is_word_byte.true))
-
-pub loop-i-preserved : goal.loop-i-preserved
-loop-i-preserved c = c.loop-i.invariant ∙ all_more _ _ _ c.loop-i-test.true (sym c.is_word_byte.ensures ∙ c.if-not-is_word_byte.false)
-
-pub returns : goal.returns
-returns c = sym (c.loop-i.invariant ∙ all_past _ _ _ c.loop-i-test.false)
+pub returns-else-is_word_start : goal.returns-else-is_word_start
+returns-else-is_word_start c =
+    c.if-is_word_start.false ∙ sym (word_none _ (sym c.is_word_start.ensures ∙ c.if-is_word_start.false))

@@ -1,20 +1,14 @@
-use native.Mathlib.Omega.{arith}
-use Prim.Native.Nat.{◌≤◌}
-use mathlib.Core.Path.{sym, ap, ◌∙◌}
-use lib.ListN.{length}
-use borrow.Author.Tests.{le-leb}
-use Rattle.quanta_words.specs.Words.{is_word, after_at, record_at}
-use Rattle.quanta_words.proofs.WordLaws.{record_short, word_part}
+use mathlib.Core.Path.{◌∙◌}
+use Rattle.quanta_words.proofs.WordLaws.{record_short, record_whole}
 use Rattle.quanta_words.proofs.words.record_at.Goals as goal
 
-pub returns-then-table-after : goal.returns-then-table-after
-returns-then-table-after c = sym (record_short _ _ (omega arith))
+pub returns-in_err-word : goal.returns-in_err-word
+returns-in_err-word c = rw c.from_residual.ensures (record_short _ _ c.in_err-word.ensures)
+
+pub returns-then-table-i : goal.returns-then-table-i
+returns-then-table-i c =
+    let here = c.in_ok-word.ensures in
+    (record_whole _ _ _ here ∙ rw (← c.is_word.ensures) c.if-table-i.true, here)
 
 pub returns : goal.returns
-unfolding record_at
-returns c =
-    let a = c.args in
-    let after = c.after_at-after.ensures in
-    let fits : after_at a.table.now a.i ≤ length a.table.now = omega arith in
-    let word = c.is_word-word.ensures ∙ ap is_word (sym (word_part a.table.now a.i _ after)) in
-    rw (le-leb _ _ fits, c.peek.ensures, c.peek-2.ensures, word)
+returns c = record_whole _ _ _ c.in_ok-word.ensures ∙ rw (← c.is_word.ensures) c.if-table-i.false
