@@ -19,19 +19,29 @@ use Rattle.quanta_lexer.specs.Tokenizing.{Answer as OfBytes}
 use Rattle.quanta_lexer.specs.declared.refusal.Failure.{Failure as NoTokens}
 use Rattle.quanta_lexer.proofs.Theorems.{accepted, accepted_small}
 use Rattle.quanta_grammar.specs.Productions.{Symbol, Derivation}
-use Rattle.quanta_grammar.specs.Reading.{allowance, reads}
+use Rattle.quanta_grammar.specs.Reading.{allowance, reads, Call as IsCall, program, item, stmt, expr, type}
 use Rattle.quanta_grammar.specs.Refine.{Text, text, Answer as OfTokens, accept, reject, answer_of, answer, refine}
 use Rattle.quanta_grammar.proofs.Steps.{comes, fails}
 use Rattle.quanta_cursor.specs.declared.parser.Refusal.{Refusal}
 use Rattle.quanta_cursor.specs.Tokens.{from, Ready}
 use Rattle.quanta_cursor.specs.Tree.{lay}
 use Rattle.quanta_cursor.specs.Answers.{Failed}
-use Rattle.quanta_parser.specs.Whole.{TookWhole, AnswersWhole, ReadsWhole}
+use Rattle.quanta_parser.specs.declared.whole.Call.{Call}
+use Rattle.quanta_parser.specs.declared.whole.Call.TheVariants.{Program, Item, Stmt, Expr, «Type»}
+use Rattle.quanta_parser.specs.Whole.{symbol_of, TookWhole, AnswersWhole, ReadsWhole}
 use Rattle.quanta_reading.specs.Reading.{Answer, failure_of, in_room, parsed, lexed, records_of, tree_words, answering, reading, Conforms}
 use Rattle.quanta_reading.specs.Finish.{ended, kept}
 use Rattle.quanta_reading.proofs.TokenWords.{length_records, from_all, ready, fronts}
 use Rattle.quanta_reading.proofs.Laying.{kept_is}
 use Rattle.quanta_cursor.specs.declared.parser.Node.{Node}
+
+-- what a call reads is one of the calls of document 01
+pub call_of : (c : Call) → IsCall (symbol_of c)
+call_of Program = program
+call_of Item = item
+call_of Stmt = stmt
+call_of Expr = expr
+call_of «Type» = type
 
 -- WHAT A WHOLE READING ANSWERS is what the grammar answers: its records ..
 pub record Rows (s : Symbol) (src : Text) (ts : List Tok) (t : List ℕ) (n : ℕ) (t' : List ℕ) : Type 0 where
