@@ -3,7 +3,7 @@ use native.Mathlib.Omega.{arith}
 use borrow.Author.Tests.{eq-eqb, ne_eqb}
 use Rattle.quanta_token.proofs.RunLaws.{end_bounds}
 use Rattle.quanta_lexer.specs.Scan.{string_at, choose}
-use Rattle.quanta_lexer.proofs.scan.scan_string.Goals as goal
+use Rattle.quanta_lexer.proofs.scan.Lexer.scan_string.Goals as goal
 
 pub overflow_add-quote : goal.overflow_add-quote
 overflow_add-quote c = let b = end_bounds _ _ _ _ (omega arith) c.run_end-quote.ensures in omega arith

@@ -2,16 +2,16 @@ use mathlib.Core.Path.{sym, ◌∙◌}
 use Rattle.quanta_token.proofs.RunLaws.{end_bounds}
 use Rattle.quanta_lexer.specs.Scan.{word_at, choose}
 use borrow.Author.Rules.{rules}
-use Rattle.quanta_lexer.proofs.scan.scan_word.Goals as goal
+use Rattle.quanta_lexer.proofs.scan.Lexer.scan_word.Goals as goal
 
 pub slice_bounds-word-count : goal.slice_bounds-word-count
-slice_bounds-word-count c = let b = end_bounds _ _ _ _ c.requires.0 c.run_end-end.ensures in search rules
+slice_bounds-word-count c = let b = end_bounds _ _ _ _ c.requires c.run_end-end.ensures in search rules
 
 pub slice_bounds-word-start : goal.slice_bounds-word-start
-slice_bounds-word-start c = let b = end_bounds _ _ _ _ c.requires.0 c.run_end-end.ensures in search rules
+slice_bounds-word-start c = let b = end_bounds _ _ _ _ c.requires c.run_end-end.ensures in search rules
 
 pub slice_bounds-word-end : goal.slice_bounds-word-end
-slice_bounds-word-end c = let b = end_bounds _ _ _ _ c.requires.0 c.run_end-end.ensures in search rules
+slice_bounds-word-end c = let b = end_bounds _ _ _ _ c.requires c.run_end-end.ensures in search rules
 
 pub returns-then-is_forbidden : goal.returns-then-is_forbidden
 unfolding word_at choose
