@@ -88,13 +88,16 @@ impl Lexer<'_> {
     }
 
     // Whether a digit stands at i.
+    #[inline(always)]
     fn is_digit_at(&self, i: usize) -> bool
         ensures { result ≡ digit (get_or self.now.src.now i 0) }
     {
         self.chart.class(peek(self.src, i)) == ByteClass::Digit
     }
 
-    // Whether a date shape stands at i. Its first dash is looked for first: few numbers have one.
+    // Whether a date shape stands at i. Its first dash is looked for first: few numbers have one. Inlined, as the
+    // digit's test is: a call would hold on to the Lexer, and keep its fields out of the registers.
+    #[inline(always)]
     fn is_date_at(&self, i: usize) -> bool
         requires { i ≤ length self.now.src.now }
         ensures { result ≡ date_at self.now.src.now i }
