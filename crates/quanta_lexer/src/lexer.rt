@@ -28,6 +28,7 @@ fn refused(number: u32, start: usize, end: usize) -> Result<usize, Refusal>
 }
 
 // Writes a token's record after n others, if it has room.
+#[tactic(auto, using(crate::proofs::TokensLaws::store_room, crate::proofs::TokensLaws::store_full))]
 fn write_token(tokens: &mut [u32], n: usize, token: Token)
     requires { (n < 2 ^ 32) × (token.start.0 < 2 ^ 32) × (token.end.0 < 2 ^ 32) }
     ensures { tokens.new ≡ store n (tok token.kind token.start.0 token.end.0) tokens.old }

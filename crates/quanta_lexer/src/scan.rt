@@ -98,6 +98,7 @@ impl Lexer<'_> {
     // Whether a date shape stands at i. Its first dash is looked for first: few numbers have one. Inlined, as the
     // digit's test is: a call would hold on to the Lexer, and keep its fields out of the registers.
     #[inline(always)]
+    #[tactic(auto, unfolding(crate::specs::Scan::date_at))]
     fn is_date_at(&self, i: usize) -> bool
         requires { i ≤ length self.now.src.now }
         ensures { result ≡ date_at self.now.src.now i }
@@ -119,6 +120,7 @@ impl Lexer<'_> {
     }
 
     // A word: refused if the table holds it, else a keyword or an identifier.
+    #[tactic(auto, unfolding(crate::specs::Scan::word_at, crate::specs::Scan::choose))]
     fn scan_word(&self, start: usize) -> Lexed
         requires { start ≤ length self.now.src.now }
         ensures { result ≡ word_at self.now.src.now self.now.words.now start }
@@ -132,6 +134,7 @@ impl Lexer<'_> {
     }
 
     // A number: refused in a date shape, and if it starts with a needless 0.
+    #[tactic(auto, unfolding(crate::specs::Scan::number_at, crate::specs::Scan::choose))]
     fn scan_number(&self, start: usize) -> Lexed
         requires { start < length self.now.src.now }
         ensures { result ≡ number_at self.now.src.now start }
@@ -147,6 +150,7 @@ impl Lexer<'_> {
     }
 
     // A string: refused if it is open at LF or the end.
+    #[tactic(auto, unfolding(crate::specs::Scan::string_at, crate::specs::Scan::choose))]
     fn scan_string(&self, start: usize) -> Lexed
         requires { start < length self.now.src.now }
         ensures { result ≡ string_at self.now.src.now start }
@@ -181,6 +185,7 @@ impl Lexer<'_> {
     }
 
     // A date, a symbol of two bytes, a symbol of one, or another byte.
+    #[tactic(auto, unfolding(crate::specs::Scan::symbol_at, crate::specs::Scan::choose))]
     fn scan_symbol(&self, start: usize) -> Lexed
         requires { start < length self.now.src.now }
         ensures { result ≡ symbol_at self.now.edition self.now.src.now start }
@@ -204,6 +209,7 @@ impl Lexer<'_> {
     }
 
     // What stands at `at`, where no blank and no comment does.
+    #[tactic(auto, unfolding(crate::specs::Scan::token_at, crate::specs::Scan::choose))]
     pub fn next_token(&self, at: BytePos) -> Lexed
         ensures { result ≡ token_at self.now.edition self.now.src.now self.now.words.now at.0 }
     {

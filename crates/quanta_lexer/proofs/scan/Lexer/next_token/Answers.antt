@@ -3,15 +3,11 @@ use Prim.Native.Nat.{◌<◌}
 use mathlib.Core.Path.{ap, sym, ◌∙◌}
 use lib.ListN.{get_or}
 use native.Mathlib.Omega.{arith}
-use borrow.Author.Tests.{lt-ltb, le-ltb}
+use borrow.Author.Tests.{lt-ltb}
 use Rattle.quanta_token.specs.Bytes.{class_of}
 use Rattle.quanta_token.proofs.ByteLaws.{unlike, word_start_class, digit_class, quote_class}
 use Rattle.quanta_lexer.specs.Scan.{token_at, choose}
 use Rattle.quanta_lexer.proofs.scan.Lexer.next_token.Goals as goal
-
-pub returns-then-self-start : goal.returns-then-self-start
-unfolding token_at choose
-returns-then-self-start c = rw (le-ltb _ _ c.if-self-start.true)
 
 pub returns-in-WordStart : goal.returns-in-WordStart
 unfolding token_at choose

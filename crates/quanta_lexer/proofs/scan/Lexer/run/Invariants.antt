@@ -1,5 +1,4 @@
--- `quanta_lexer::scan::Lexer::run` meets its contract. The loop's invariant is `Going`: what is read so far, and what is read
--- from i on, make up the whole reading.
+-- The loop's invariant is `Going`: what is read so far, and what is read from i on, make up the whole reading.
 -- Assumes nothing.
 use Prim.Native.Nat.{◌-◌}
 use lib.ListN.{length}

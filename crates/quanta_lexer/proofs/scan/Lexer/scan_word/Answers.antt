@@ -1,6 +1,4 @@
-use mathlib.Core.Path.{sym, ◌∙◌}
 use Rattle.quanta_token.proofs.RunLaws.{end_bounds}
-use Rattle.quanta_lexer.specs.Scan.{word_at, choose}
 use borrow.Author.Rules.{rules}
 use Rattle.quanta_lexer.proofs.scan.Lexer.scan_word.Goals as goal
 
@@ -12,11 +10,3 @@ slice_bounds-word-start c = let b = end_bounds _ _ _ _ c.requires c.run_end-end.
 
 pub slice_bounds-word-end : goal.slice_bounds-word-end
 slice_bounds-word-end c = let b = end_bounds _ _ _ _ c.requires c.run_end-end.ensures in search rules
-
-pub returns-then-is_forbidden : goal.returns-then-is_forbidden
-unfolding word_at choose
-returns-then-is_forbidden c = rw (← c.run_end-end.ensures, sym c.is_forbidden.ensures ∙ c.if-is_forbidden.true) c.refused.ensures
-
-pub returns : goal.returns
-unfolding word_at choose
-returns c = rw (← c.run_end-end.ensures, sym c.is_forbidden.ensures ∙ c.if-is_forbidden.false, ← c.keyword_kind.ensures) c.found.ensures
