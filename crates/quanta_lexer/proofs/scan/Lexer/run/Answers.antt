@@ -11,7 +11,7 @@ use Rattle.quanta_lexer.specs.Trivia.{trivia_end}
 use Rattle.quanta_lexer.proofs.TriviaLaws.{skip_bounds}
 use Rattle.quanta_lexer.proofs.TokensLaws.{Going, going_start, going_token, going_end, going_refused}
 use Rattle.quanta_lexer.proofs.TokensLaws.{token_within}
-use Rattle.quanta_lexer.proofs.lexer.run.Goals as goal
+use Rattle.quanta_lexer.proofs.scan.Lexer.run.Goals as goal
 
 -- where the next token is looked for
 here :
@@ -30,9 +30,6 @@ loop-token-init c = going_start _ _ _ _
 pub skip_trivia-here-requires : goal.skip_trivia-here-requires
 skip_trivia-here-requires c = c.loop-token.invariant.within
 
-pub next_token-requires : goal.next_token-requires
-next_token-requires c = c.requires.1
-
 pub returns-in_err-token : goal.returns-in_err-token
 returns-in_err-token c =
     let p = err_from_is_err_and c.from_residual.result c.from_residual.ensures.1 in
@@ -42,25 +39,25 @@ returns-in_err-token c =
 
 pub write_token-requires : goal.write_token-requires
 write_token-requires c =
-    let h = here _ _ _ _ _ _ _ _ c.loop-token.invariant c.requires.0 c.skip_trivia-here.ensures in
+    let h = here _ _ _ _ _ _ _ _ c.loop-token.invariant c.requires c.skip_trivia-here.ensures in
     let x = c.in_ok-token.was ∙ ap Ok c.in-Some.is in
     let w = token_within _ _ _ _ _ c.next_token.ensures x in
-    omega (arith, h, w, c.requires.0)
+    omega (arith, h, w, c.requires)
 
 pub overflow_add-n : goal.overflow_add-n
 overflow_add-n c =
-    omega (arith, here _ _ _ _ _ _ _ _ c.loop-token.invariant c.requires.0 c.skip_trivia-here.ensures)
+    omega (arith, here _ _ _ _ _ _ _ _ c.loop-token.invariant c.requires c.skip_trivia-here.ensures)
 
 pub loop-token-smaller : goal.loop-token-smaller
 loop-token-smaller c =
-    let h = here _ _ _ _ _ _ _ _ c.loop-token.invariant c.requires.0 c.skip_trivia-here.ensures in
+    let h = here _ _ _ _ _ _ _ _ c.loop-token.invariant c.requires c.skip_trivia-here.ensures in
     let x = c.in_ok-token.was ∙ ap Ok c.in-Some.is in
     let w = token_within _ _ _ _ _ c.next_token.ensures x in
     omega (arith, h, w)
 
 pub loop-token-preserved : goal.loop-token-preserved
 loop-token-preserved c =
-    let h = here _ _ _ _ _ _ _ _ c.loop-token.invariant c.requires.0 c.skip_trivia-here.ensures in
+    let h = here _ _ _ _ _ _ _ _ c.loop-token.invariant c.requires c.skip_trivia-here.ensures in
     let x = c.in_ok-token.was ∙ ap Ok c.in-Some.is in
     let w = token_within _ _ _ _ _ c.next_token.ensures x in
     going_token _ _ _ _ _ _ _ _ c.loop-token.invariant c.skip_trivia-here.ensures _ _ (omega (arith, h, w), w.2)
@@ -69,11 +66,11 @@ loop-token-preserved c =
 -- at the end of the source
 pub write_token-requires-in-None : goal.write_token-requires-in-None
 write_token-requires-in-None c =
-    omega (arith, here _ _ _ _ _ _ _ _ c.loop-token.invariant c.requires.0 c.skip_trivia-here.ensures)
+    omega (arith, here _ _ _ _ _ _ _ _ c.loop-token.invariant c.requires c.skip_trivia-here.ensures)
 
 pub overflow_add-count : goal.overflow_add-count
 overflow_add-count c =
-    omega (arith, here _ _ _ _ _ _ _ _ c.loop-token.invariant c.requires.0 c.skip_trivia-here.ensures)
+    omega (arith, here _ _ _ _ _ _ _ _ c.loop-token.invariant c.requires c.skip_trivia-here.ensures)
 
 pub returns-in-None : goal.returns-in-None
 returns-in-None c =
