@@ -16,7 +16,8 @@ use Rattle.grammar.specs.Reader.{use', pick}
 use Rattle.grammar.specs.Fused.{Outcome, left}
 use Rattle.grammar.proofs.Lines.{mark}
 use Rattle.grammar.proofs.Table.{both, or_cases}
-use Rattle.quanta_token.specs.TokenKind.{TokenKind, code, Ident, Int, Writes, Reads, Conserves, Mints, Burns, Limits, Denies, After, From, LParen, RParen, Comma}
+use Rattle.quanta_token.specs.TokenKind.{TokenKind, code, Ident, Int, Writes, Reads, Conserves, Mints, Burns, Limits, Denies}
+use Rattle.quanta_token.specs.TokenKind.{After, From, LParen, RParen, Comma}
 use Rattle.quanta_grammar.specs.FineKind.{fine, UnitWord, AfterSpan}
 use Rattle.quanta_grammar.specs.NodeKind.{NodeKind, node_code, flag_code, has_from, has_duration, after_node, name_node, int_node}
 use Rattle.quanta_grammar.specs.RefusalKind.{refusal_code, expected_identifier}
@@ -40,7 +41,8 @@ use Rattle.quanta_cursor.proofs.Exits.{handed}
 use Rattle.quanta_cursor.proofs.Meeting.{next_of, lacks_of, word_of, no_word_of}
 use Rattle.quanta_cursor.proofs.Doing.{Doing, picks, skips, begin, eat, eat_fine, lack, bring, fails, fold_in, fold_fails, over, ends}
 use Rattle.quanta_cursor.proofs.Lists.{glue_none, Rolling as Names}
-use Rattle.quanta_cursor.proofs.WordLists.{names_law, first_bad_lem, list_begun, list_ends, comma_past, list_bad, list_on, list_less}
+use Rattle.quanta_cursor.proofs.WordLists.{names_law, first_bad_lem}
+use Rattle.quanta_cursor.proofs.WordLists.{list_begun, list_ends, comma_past, list_bad, list_on, list_less}
 use Rattle.quanta_cursor.proofs.Under.{Under, passes, listed_in, unlisted, closed_by}
 use Rattle.quanta_clause.specs.declared.decl.AfterTarget.{AfterTarget}
 use Rattle.quanta_clause.specs.Units.{is_unit, is_duration}
@@ -207,7 +209,8 @@ module _ {ws : List ℕ} {i n p : ℕ} (q : p ≡ i + 1) (g : Ready ws i n) (w :
   behind src = leave outs own widens (tok_at src ws i) fresh
 
   module _ (src : Text) (a : ℕ) {t : List ℕ} where
-    begun : Under (reads clause a (from src ws i) fresh) src ws (tok_at src ws i) (names_marks (clause_kind (kind_at ws i)))
+    begun : Under (reads clause a (from src ws i) fresh) src ws (tok_at src ws i)
+        (names_marks (clause_kind (kind_at ws i)))
         (one (code LParen ∷ []) ∷ one name ∷ sub more_names ∷ one (code RParen ∷ []) ∷ []) a p (behind src) t n t n
     begun = record { doing = (names_opening src ws i a g.inside q w).doing; laid = laid_none; ready = names_past }
 
@@ -273,7 +276,8 @@ module _ {ws : List ℕ} {i n p : ℕ} (q : p ≡ i + 1) (g : Ready ws i n) (w :
             src (tok_at src ws i) a (behind src) in
             let N = clause_kind (kind_at ws i) in
             let s = joined (span_at ws i) (span_at ws e) in
-            closed_by (span_at ws i) (code RParen) tt (λ u. u) tt (λ i. refl) (listed_in (inside src a {t = t} first.0) l)
+            closed_by (span_at ws i) (code RParen) tt (λ u. u) tt (λ i. refl)
+            (listed_in (inside src a {t = t} first.0) l)
             (ap (λ (f : ℕ). single (rec_of N (f + 0) i s.start s.end (count (glue none l.row))) (glue none l.row) s)
             ((names_opening src ws i a g.inside q w).flagless (fine_at src ws i))
             ∙ ap (λ (c : ℕ). single (rec_of N 0 i s.start s.end c) (glue none l.row) s)
@@ -284,6 +288,9 @@ module _ {ws : List ℕ} {i n p : ℕ} (q : p ≡ i + 1) (g : Ready ws i n) (w :
 pub after_past : {ws : List ℕ} {i n p : ℕ} → p ≡ i + 1 → Ready ws i n × (kind_at ws i ≡ code After) → Ready ws p n
 after_past q b = ready_behind (code After) (λ u. u) b.0 b.1 q
 
+abbrev after_mark : Mark
+after_mark = mark nothing fold apart (start ∷ make (node_code after_node) ∷ [])
+
 module _ (src : Text) (a : ℕ) {ws : List ℕ} {i n p : ℕ} (q : p ≡ i + 1)
     (b : Ready ws i n × (kind_at ws i ≡ code After)) where
   abbrev held : Row → Reached → ℕ → Acc
@@ -293,19 +300,32 @@ module _ (src : Text) (a : ℕ) {ws : List ℕ} {i n p : ℕ} (q : p ≡ i + 1)
   waiting row r = held row (span r.span.start r.span.end) r.flag
 
   after_is : fine_at src ws i ≡ after_kind (is_duration src ws p)
-  after_is = after_kind_lem src ws i b.0.closed b.0.inside b.1 ∙ ap (λ (j : ℕ). after_kind (is_duration src ws j)) (sym q)
+  after_is =
+      after_kind_lem src ws i b.0.closed b.0.inside b.1
+      ∙ ap (λ (j : ℕ). after_kind (is_duration src ws j)) (sym q)
 
   after_begun : (d : Bool) → fine_at src ws i ≡ after_kind d
-      → Doing (reads clause a (from src ws i) fresh) src ws (tok_at src ws i) (mark nothing pass replaces (after_steps d) ∷ mark nothing fold apart (start ∷ make (node_code after_node) ∷ []) ∷ []) (sub (target_of d) ∷ sub from_opt ∷ []) a p (leave outs own apart (tok_at src ws i) fresh)
-  after_begun true e = eat_fine (begin src ws i b.0.inside clause after_duration a fresh (ap (pick (guide clause)) e) refl) tt b.0.inside (subst (λ (k : ℕ). T (has (fine AfterSpan ∷ []) k)) (sym e) tt) q
-  after_begun false e = eat_fine (begin src ws i b.0.inside clause after_expr a fresh (ap (pick (guide clause)) e) refl) tt b.0.inside (subst (λ (k : ℕ). T (has (code After ∷ []) k)) (sym e) tt) q
+      → Doing (reads clause a (from src ws i) fresh) src ws (tok_at src ws i)
+      (mark nothing pass replaces (after_steps d) ∷ after_mark ∷ []) (sub (target_of d) ∷ sub from_opt ∷ [])
+      a p (leave outs own apart (tok_at src ws i) fresh)
+  after_begun true e =
+      eat_fine (begin src ws i b.0.inside clause after_duration a fresh (ap (pick (guide clause)) e) refl)
+      tt b.0.inside (subst (λ (k : ℕ). T (has (fine AfterSpan ∷ []) k)) (sym e) tt) q
+  after_begun false e =
+      eat_fine (begin src ws i b.0.inside clause after_expr a fresh (ap (pick (guide clause)) e) refl)
+      tt b.0.inside (subst (λ (k : ℕ). T (has (code After ∷ []) k)) (sym e) tt) q
 
   pub after_bad : {e : Refusal} → Failed (reads (target_of (is_duration src ws p)) a (from src ws p) fresh) e → Failed (reads clause a (from src ws i) fresh) e
   after_bad f = fails (after_begun (is_duration src ws p) after_is) f
 
-  aimed_by : (d : Bool) → fine_at src ws i ≡ after_kind d → {t : List ℕ} {r : AfterTarget} {t₁ : List ℕ} (k : TookTarget (reads (target_of d) a (from src ws p) fresh) src ws t n (flag_if d) r t₁)
-      → Doing (reads clause a (from src ws i) fresh) src ws (tok_at src ws i) (mark nothing fold apart (start ∷ make (node_code after_node) ∷ []) ∷ []) (sub from_opt ∷ []) a r.at.0 (waiting k.all.acc.row r)
-  aimed_by d e {t} {r} {t₁} k = subst (λ (x : Acc). Doing (reads clause a (from src ws i) fresh) src ws (tok_at src ws i) (mark nothing fold apart (start ∷ make (node_code after_node) ∷ []) ∷ []) (sub from_opt ∷ []) a r.at.0 x) (state d k.flagged) (bring (after_begun d e) (minds d) k.all.gave)
+  aimed_by : (d : Bool) → fine_at src ws i ≡ after_kind d → {t : List ℕ} {r : AfterTarget} {t₁ : List ℕ}
+      (k : TookTarget (reads (target_of d) a (from src ws p) fresh) src ws t n (flag_if d) r t₁)
+      → Doing (reads clause a (from src ws i) fresh) src ws (tok_at src ws i)
+      (after_mark ∷ []) (sub from_opt ∷ []) a r.at.0 (waiting k.all.acc.row r)
+  aimed_by d e {t} {r} {t₁} k =
+      subst (λ (x : Acc). Doing (reads clause a (from src ws i) fresh) src ws (tok_at src ws i)
+      (after_mark ∷ []) (sub from_opt ∷ []) a r.at.0 x)
+      (state d k.flagged) (bring (after_begun d e) (minds d) k.all.gave)
     where
       minds : (d : Bool) → T (not (targets.minds (target_of d)))
       minds true = tt
@@ -316,7 +336,10 @@ module _ (src : Text) (a : ℕ) {ws : List ℕ} {i n p : ℕ} (q : p ≡ i + 1)
           ap (λ (s : Reached). held (glue none k.all.acc.row) (or_else s nil) f) k.reach
           ∙ ap (λ (z : Row). held z (span r.span.start r.span.end) f) (glue_none k.all.acc.row)
 
-      state : (d : Bool) → r.flag ≡ flag_if d → finish outs (tok_at src ws i) (after_steps d) (beside replaces (leave outs own apart (tok_at src ws i) fresh) k.all.acc) ≡ waiting k.all.acc.row r
+      state : (d : Bool) → r.flag ≡ flag_if d
+          → finish outs (tok_at src ws i) (after_steps d)
+          (beside replaces (leave outs own apart (tok_at src ws i) fresh) k.all.acc)
+          ≡ waiting k.all.acc.row r
       state true z = spread (flag_code has_duration) ∙ ap (λ (f : ℕ). held k.all.acc.row (span r.span.start r.span.end) f) (sym z)
       state false z = spread 0 ∙ ap (λ (f : ℕ). held k.all.acc.row (span r.span.start r.span.end) f) (sym z)
 
@@ -331,7 +354,7 @@ module _ (src : Text) (a : ℕ) {ws : List ℕ} {i n p : ℕ} (q : p ≡ i + 1)
         few true z = omega arith
         few false z = omega arith
 
-    aimed : Doing (reads clause a (from src ws i) fresh) src ws (tok_at src ws i) (mark nothing fold apart (start ∷ make (node_code after_node) ∷ []) ∷ []) (sub from_opt ∷ []) a r.at.0 (waiting k.all.acc.row r)
+    aimed : Doing (reads clause a (from src ws i) fresh) src ws (tok_at src ws i) (after_mark ∷ []) (sub from_opt ∷ []) a r.at.0 (waiting k.all.acc.row r)
     aimed = aimed_by (is_duration src ws p) after_is k
 
     -- the record of an `after` over so many records, with the flag and the span so far
@@ -428,7 +451,8 @@ value_took {m = m} k = record { all = record { acc = single k.top k.below m.span
 pub target_is : {src : Text} {ws : List ℕ} {i n a : ℕ} {t : List ℕ} {r : Result AfterTarget Refusal} {t' : List ℕ} {b : Bool} (c : Bool) → b ≡ is_duration src ws i → b ≡ c → AnswersTarget c src ws i n a t r t' → Targets src ws i n a t r t'
 target_is {src} {ws} {i} {n} {a} {t} {r} {t'} c e f x = record { by = subst (λ (b : Bool). AnswersTarget b src ws i n a t r t') (sym f ∙ e) x }
 
-pub target_bad : {src : Text} {ws : List ℕ} {i n a : ℕ} {t : List ℕ} {r : Result AfterTarget Refusal} {t' : List ℕ} {b : Bool}
+pub target_bad : {src : Text} {ws : List ℕ} {i n a : ℕ} {t : List ℕ} {r : Result AfterTarget Refusal} {t' : List ℕ}
+    {b : Bool}
     → b ≡ is_duration src ws i → b ≡ false → {e : Refusal} → IsErrAnd r (λ y. y ≡ e)
     → Failed (reads expr a (from src ws i) fresh) e → Targets src ws i n a t r t'
 target_bad {src} {ws} {i} {n} {a} {t} {t' = t'} e f h x =

@@ -66,7 +66,8 @@ module _ (src : Text) (ws : List ℕ) (i : ℕ) where
   pub after_start : kind_at ws i ≡ code After → T (has clause_start (fine_at src ws i))
   after_start e = starts (is_in clause_start (code After) refl e tt)
 
-  no_start : {j : ℕ} → j ≡ kind_at ws i → kind_at ws i ≤ code Eof → (j ≡ code After → ⊥) → ((c : ℕ) → code Mints ≤ c → c ≤ code Denies → j ≡ c → ⊥) → T (has clause_start (fine_at src ws i)) → ⊥
+  no_start : {j : ℕ} → j ≡ kind_at ws i → kind_at ws i ≤ code Eof → (j ≡ code After → ⊥)
+      → ((c : ℕ) → code Mints ≤ c → c ≤ code Denies → j ≡ c → ⊥) → T (has clause_start (fine_at src ws i)) → ⊥
   no_start e h n m =
       fine_out clause_start tt src ws i (not_in clause_start e h (
         m (code Writes) (omega arith) (omega arith),
@@ -88,7 +89,8 @@ pub record Turn (src : Text) (ws : List ℕ) (a i n : ℕ) (t : List ℕ) (m : N
   pub took : Took (reads clause a (from src ws i) fresh) src ws t n m t'
   pub long : length t' ≡ length t
 
-pub turned : {src : Text} {ws : List ℕ} {a i n : ℕ} {t : List ℕ} {r : Result Node Refusal} {m m' : Node} {t' t'' : List ℕ}
+pub turned : {src : Text} {ws : List ℕ} {a i n : ℕ} {t : List ℕ} {r : Result Node Refusal}
+    {m m' : Node} {t' t'' : List ℕ}
     → T (has clause_start (fine_at src ws i)) → m' ≡ m → t'' ≡ t' → r ≡ Ok m
     → Meets (reads clause a (from src ws i) fresh) src ws t n r t' → length t' ≡ length t
     → Turn src ws a i n t m' t''
@@ -104,8 +106,8 @@ pub refused : {src : Text} {ws : List ℕ} {a i n p q c : ℕ} {t tree t' : List
 refused {a = a} h g v s f = fails_all h (runs_bad clauses_run a g v s fresh f)
 
 -- THE END of the list
-pub clauses_end : {src : Text} {ws : List ℕ} {a i n : ℕ} {t : List ℕ} {p : TokenPos} {q : RecordNo} {c : ℕ} {tree : List ℕ}
-    → Ready ws i n → Rolling clauses src ws a i n 0 t p.0 q.0 c tree → {j : ℕ} → j ≡ kind_at ws p.0
+pub clauses_end : {src : Text} {ws : List ℕ} {a i n : ℕ} {t : List ℕ} {p : TokenPos} {q : RecordNo} {c : ℕ}
+    {tree : List ℕ} → Ready ws i n → Rolling clauses src ws a i n 0 t p.0 q.0 c tree → {j : ℕ} → j ≡ kind_at ws p.0
     → (j ≡ code After → ⊥) → ((k : ℕ) → code Mints ≤ k → k ≤ code Denies → j ≡ k → ⊥)
     → Lists src clauses ws i n a t (Ok (record { at = p; no = q; count = c })) tree
 clauses_end {src} {ws} {a} {i} {n} {t} {p} b v e o m =

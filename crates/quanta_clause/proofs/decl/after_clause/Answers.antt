@@ -82,4 +82,5 @@ returns c = λ e.
     let target = target_of_lem (c.after_target.ensures e) c.in_ok-target.was in
     let next = sym c.peek.ensures ∙ c.if-peek-ne-FROM.false in
     let value = took_of c.in_ok-from.was (c.expr.ensures src) in
-    took (from_took src c.args.allowance c.bump.ensures c.requires target next c.bump-2.ensures value c.end_after-2.ensures)
+    took (from_took src c.args.allowance c.bump.ensures c.requires target next c.bump-2.ensures value
+    c.end_after-2.ensures)

@@ -36,7 +36,8 @@ returns-in_err-first-in-29 c = λ e.
     let src = text e c.args.src.now in
     let w = is_names c.peek.ensures (omega arith) (omega arith) in
     let v = c.clauses.invariant e in
-    refused c.from_residual-in_err-first-in-29.ensures.1 c.requires v (names_start src c.args.tokens.now c.clauses.at.0 w)
+    let start = names_start src c.args.tokens.now c.clauses.at.0 w in
+    refused c.from_residual-in_err-first-in-29.ensures.1 c.requires v start
     (names_none c.bump.ensures v.ready w c.first_name.ensures c.in_err-first-in-29.was src c.args.allowance)
 
 pub names-init : goal.names-init
@@ -55,7 +56,8 @@ expect_ident-requires c =
     let g = (c.clauses.invariant One).ready in
     let w = is_names c.peek.ensures (omega arith) (omega arith) in
     let comma = sym c.peek-in-names.ensures ∙ c.if-peek-ne-COMMA.false in
-    names_comma c.bump.ensures g w c.first_name.ensures c.in_ok-first-in-29.was c.names.invariant comma c.bump-in-names.ensures
+    names_comma c.bump.ensures g w c.first_name.ensures c.in_ok-first-in-29.was c.names.invariant comma
+    c.bump-in-names.ensures
 
 pub returns-in_err-name-in-29 : goal.returns-in_err-name-in-29
 returns-in_err-name-in-29 c = λ e.
@@ -63,7 +65,8 @@ returns-in_err-name-in-29 c = λ e.
     let w = is_names c.peek.ensures (omega arith) (omega arith) in
     let v = c.clauses.invariant e in
     let comma = sym c.peek-in-names.ensures ∙ c.if-peek-ne-COMMA.false in
-    refused c.from_residual-in_err-name-in-29.ensures.1 c.requires v (names_start src c.args.tokens.now c.clauses.at.0 w)
+    let start = names_start src c.args.tokens.now c.clauses.at.0 w in
+    refused c.from_residual-in_err-name-in-29.ensures.1 c.requires v start
     (names_bad c.bump.ensures v.ready w c.first_name.ensures c.in_ok-first-in-29.was c.names.invariant comma
     c.bump-in-names.ensures c.expect_ident.ensures c.in_err-name-in-29.was src c.args.allowance)
 
@@ -99,7 +102,8 @@ returns-in_err-clause-in-29 c = λ e.
     let v = c.clauses.invariant e in
     let met = names_met c.bump.ensures v.ready w c.first_name.ensures c.in_ok-first-in-29.was c.names.invariant
     (λ z. c.if-peek-ne-COMMA.true (c.peek-in-names.ensures ∙ z)) c.close_names.ensures src c.args.allowance in
-    refused c.from_residual-in_err-clause-in-29.ensures.1 c.requires v (names_start src c.args.tokens.now c.clauses.at.0 w)
+    let start = names_start src c.args.tokens.now c.clauses.at.0 w in
+    refused c.from_residual-in_err-clause-in-29.ensures.1 c.requires v start
     (failed_of c.in_err-clause-in-29.was met)
 
 -- the other clauses

@@ -21,5 +21,6 @@ returns-then-peek-eq-INT c = λ e.
 
 pub returns-else-peek-eq-INT : goal.returns-else-peek-eq-INT
 returns-else-peek-eq-INT c = λ e.
+    let src = text e c.args.src.now in
     ne_eqb c.peek.result (code Int) c.if-peek-eq-INT.false
-    ∙ no_duration (text e c.args.src.now) c.args.tokens.now c.args.at.0 (λ z. c.if-peek-eq-INT.false (c.peek.ensures ∙ z))
+    ∙ no_duration src c.args.tokens.now c.args.at.0 (λ z. c.if-peek-eq-INT.false (c.peek.ensures ∙ z))
