@@ -46,3 +46,5 @@ same_long [] (y ∷ ys) e = absurd (omega arith)
 same_long (x ∷ xs) [] e = absurd (omega arith)
 same_long (x ∷ xs) (y ∷ ys) e =
     ap (λ (b : Bool). eqb x y && b) (same_long xs ys (omega arith) ∙ sym (step x xs 0 ys))
+
+pub ruleset same_laws = (same_short, same_first, same_long)

@@ -16,7 +16,8 @@ use Rattle.grammar.specs.Reader.{use', pick}
 use Rattle.grammar.specs.Fused.{Outcome, left}
 use Rattle.grammar.proofs.Lines.{mark}
 use Rattle.grammar.proofs.Table.{both, or_cases}
-use Rattle.quanta_token.specs.TokenKind.{TokenKind, code, Ident, Int, Writes, Reads, Conserves, Mints, Burns, Limits, Denies}
+use Rattle.quanta_token.specs.TokenKind.{TokenKind, code, Ident, Int}
+use Rattle.quanta_token.specs.TokenKind.{Writes, Reads, Conserves, Mints, Burns, Limits, Denies}
 use Rattle.quanta_token.specs.TokenKind.{After, From, LParen, RParen, Comma}
 use Rattle.quanta_grammar.specs.FineKind.{fine, UnitWord, AfterSpan}
 use Rattle.quanta_grammar.specs.NodeKind.{NodeKind, node_code, flag_code, has_from, has_duration, after_node, name_node, int_node}
@@ -354,7 +355,8 @@ module _ (src : Text) (a : ℕ) {ws : List ℕ} {i n p : ℕ} (q : p ≡ i + 1)
         few true z = omega arith
         few false z = omega arith
 
-    aimed : Doing (reads clause a (from src ws i) fresh) src ws (tok_at src ws i) (after_mark ∷ []) (sub from_opt ∷ []) a r.at.0 (waiting k.all.acc.row r)
+    aimed : Doing (reads clause a (from src ws i) fresh) src ws (tok_at src ws i)
+        (after_mark ∷ []) (sub from_opt ∷ []) a r.at.0 (waiting k.all.acc.row r)
     aimed = aimed_by (is_duration src ws p) after_is k
 
     -- the record of an `after` over so many records, with the flag and the span so far

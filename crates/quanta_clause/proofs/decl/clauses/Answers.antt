@@ -1,3 +1,5 @@
+-- `quanta_clause::decl::clauses` meets its contract: the answers, goal by goal.
+-- Assumes nothing.
 use mathlib.Core.Path.{refl, sym, ◌∙◌}
 use native.Mathlib.Omega.{arith}
 use Rattle.quanta_token.specs.declared.edition.Edition.{Edition}
