@@ -11,25 +11,15 @@ pub fn is_closed(tokens: &[u32]) -> bool
     ensures fact { result ≡ false → Closed tokens.now → ⊥ }
 {
     let count = tokens.len() / 3;
-    if tokens.len() != count * 3 {
+    if count == 0 || count >= 4294967296 || tokens.len() != count * 3 {
         return false;
     }
-    if count == 0 {
-        return false;
-    }
-    if count >= 4294967296 {
-        return false;
-    }
-    let mut i = 0;
-    while i + 1 < count {
+    let last = count - 1;
+    for i in 0..last {
         let kind = tokens[i * 3];
-        if kind == 0 {
+        if kind == 0 || kind >= token::EOF {
             return false;
         }
-        if kind >= token::EOF {
-            return false;
-        }
-        i += 1;
     }
-    tokens[i * 3] == token::EOF
+    tokens[last * 3] == token::EOF
 }

@@ -82,8 +82,7 @@ pub fn fill(tokens: &mut [u32], seed: u32, scattered: bool)
     let count = tokens.len() / 3;
     let mut seed = seed;
     let mut kind = token::LPAREN;
-    let mut i = 0;
-    while i < count {
+    for i in 0..count {
         seed = mix(seed);
         kind = next(kind, seed);
         if i + 1 == count {
@@ -97,7 +96,6 @@ pub fn fill(tokens: &mut [u32], seed: u32, scattered: bool)
             let place = i as u32 * 2;
             put(tokens, i, kind, place, place + 1);
         }
-        i += 1;
     }
 }
 
@@ -114,9 +112,10 @@ fn room(seed: u32) -> usize
     ensures { result ≤ 1200 }
 {
     if coin(seed) {
-        return TREE;
+        TREE
+    } else {
+        below(seed, below(mix(seed), TREE) + 1)
     }
-    below(seed, below(mix(seed), TREE) + 1)
 }
 
 // An allowance: every second time the whole.
@@ -141,9 +140,9 @@ pub fn draw(seed: u32) -> Case
     let count = below(seed, TOKENS) + 1;
     let at = place(first, count);
     Case {
-        count: count,
+        count,
         room: room(second),
-        at: at,
+        at,
         no: below(third, at + 1),
         allowance: allowance(fourth),
         seed: fourth,

@@ -1,7 +1,6 @@
 // Both engines for expressions on made-up token lists: on how many they differ, and how often each answer came.
 #![tactic(auto)]
 
-mod alike;
 mod chance;
 mod closed;
 mod made;

@@ -15,33 +15,27 @@ pub fn count(came: &mut [u32], number: u32)
     }
 }
 
-// Writes a blank and how often an answer came.
-fn times(rt: &impl Print, n: u32) -> io::Result<()> {
-    print!(rt; " {n}")
-}
-
 // Writes a refusal's number and how often it came, if it did.
-fn refused(rt: &impl Print, number: u32, n: u32) -> io::Result<()> {
-    if n == 0 {
+fn refused(rt: &impl Print, number: usize, times: u32) -> io::Result<()> {
+    if times == 0 {
         return Ok(());
     }
-    print!(rt; ", {number}")?;
-    times(rt, n)
+    print!(rt; ", {number} {times}")
 }
 
 // Writes the refusals that came.
 fn refusals(rt: &impl Print, came: &[u32; 32]) -> io::Result<()> {
-    for number in 1..32u32 {
-        refused(rt, number, came[number as usize])?;
+    for (number, times) in came.iter().enumerate().skip(1) {
+        refused(rt, number, *times)?;
     }
     Ok(())
 }
 
 // Two lines: how many lists differ; and how many were accepted, and refused by each number that came.
 pub fn print(rt: &impl Print, differing: u32, came: &[u32; 32]) -> io::Result<()> {
+    let accepted = came[0];
     println!(rt; "{LISTS} lists, {differing} differ")?;
-    print!(rt; "accepted")?;
-    times(rt, came[0])?;
+    print!(rt; "accepted {accepted}")?;
     refusals(rt, came)?;
     println!(rt; "")
 }

@@ -2,7 +2,6 @@
 ghost use Rattle.std.specs.Prelude.{◌≡◌, ℕ, ◌*◌, length, slice_index};
 ghost use Rattle.engines.specs.Cases.{Sound, Lent};
 
-use crate::alike::{same_listed, same_parsed, same_words};
 use crate::chance::mix;
 use crate::closed::is_closed;
 use crate::made;
@@ -16,13 +15,6 @@ pub const LISTS: u32 = 100000;
 // From one list's seed to the next.
 const STEP: u32 = 2654435769;
 
-// What comes of a list: the same from both, with the number of the refusal, or 0 for an expression; or not the same.
-#[derive(Clone, Copy)]
-enum Came {
-    Same(u32),
-    Different,
-}
-
 fn number(answer: Result<Node, Refusal>) -> u32 {
     match answer {
         Ok(_) => 0,
@@ -33,16 +25,14 @@ fn number(answer: Result<Node, Refusal>) -> u32 {
 // Words of no meaning.
 fn spoil(words: &mut [u32], seed: u32) {
     let mut word = seed;
-    let mut i = 0;
-    while i < words.len() {
-        words[i] = word;
+    for place in words.iter_mut() {
+        *place = word;
         word = word.wrapping_add(seed);
-        i += 1;
     }
 }
 
-// An expression, over spoilt words.
-fn exprs(tokens: &[u32], one: &mut [u32], two: &mut [u32], case: Case, seed: u32) -> Came
+// An expression, over spoilt words: the number of the refusal, or 0 for an expression; or none where the two differ.
+fn exprs(tokens: &[u32], one: &mut [u32], two: &mut [u32], case: Case, seed: u32) -> Option<u32>
     requires { Lent case tokens.now one.old two.old }
 {
     let room = case.room;
@@ -52,10 +42,10 @@ fn exprs(tokens: &[u32], one: &mut [u32], two: &mut [u32], case: Case, seed: u32
     spoil(two, seed);
     let a = quanta_expr::expr::expr(tokens, &mut one[..room], at, no, case.allowance);
     let b = quanta_engine::expr::expr(tokens, &mut two[..room], at, no, case.allowance);
-    if same_parsed(a, b) && same_words(one, two) {
-        return Came::Same(number(a));
+    if a == b && *one == *two {
+        return Some(number(a));
     }
-    Came::Different
+    None
 }
 
 // The arguments of a call, over spoilt words.
@@ -69,19 +59,16 @@ fn args_alike(tokens: &[u32], one: &mut [u32], two: &mut [u32], case: Case, seed
     spoil(two, seed);
     let a = quanta_expr::expr::call_args(tokens, &mut one[..room], at, no, case.allowance);
     let b = quanta_engine::expr::call_args(tokens, &mut two[..room], at, no, case.allowance);
-    same_listed(a, b) && same_words(one, two)
+    a == b && *one == *two
 }
 
 // Both. A list that is not closed is none to read, and counts as a difference.
-fn came_of(tokens: &[u32], one: &mut [u32], two: &mut [u32], case: Case, seed: u32) -> Came
+fn came_of(tokens: &[u32], one: &mut [u32], two: &mut [u32], case: Case, seed: u32) -> Option<u32>
     requires sound { Sound case × (length tokens.now ≡ case.count * 3) }
     requires one_len { (length one.old ≡ 1200) × (length two.old ≡ 1200) }
 {
-    if !is_closed(tokens) {
-        return Came::Different;
-    }
-    if !args_alike(tokens, one, two, case, seed) {
-        return Came::Different;
+    if !is_closed(tokens) || !args_alike(tokens, one, two, case, seed) {
+        return None;
     }
     exprs(tokens, one, two, case, seed)
 }
@@ -93,7 +80,7 @@ fn came_from(
     two: &mut [u32],
     seed: u32,
     scattered: bool,
-) -> Came
+) -> Option<u32>
     requires { (length tokens.old ≡ 450) × (length one.old ≡ 1200) × (length two.old ≡ 1200) }
 {
     let case = made::draw(seed);
@@ -109,16 +96,12 @@ pub fn all(tokens: &mut [u32], one: &mut [u32], two: &mut [u32], came: &mut [u32
 {
     let mut seed = STEP;
     let mut differing: u32 = 0;
-    let mut round: u32 = 0;
-    while round < LISTS {
+    for round in 0..LISTS {
         match came_from(tokens, one, two, mix(seed), round % 4 == 0) {
-            Came::Same(number) => count(came, number),
-            Came::Different => {
-                differing += 1;
-            }
+            Some(number) => count(came, number),
+            None => differing += 1,
         }
         seed = seed.wrapping_add(STEP);
-        round += 1;
     }
     differing
 }

@@ -18,22 +18,22 @@ use quanta_token::token;
 pub const MAX_DEPTH: usize = 64;
 
 // A token's number, counted from 0.
-#[derive(Clone, Copy)]
+#[derive(Clone, Copy, Debug, PartialEq, Eq)]
 pub struct TokenPos(pub usize);
 
 // A tree record's number, counted from 0.
-#[derive(Clone, Copy)]
+#[derive(Clone, Copy, Debug, PartialEq, Eq)]
 pub struct RecordNo(pub usize);
 
 // Byte offsets in the source.
-#[derive(Clone, Copy)]
+#[derive(Clone, Copy, Debug, PartialEq, Eq)]
 pub struct Span {
     pub start: u32,
     pub end: u32,
 }
 
 // A node that was read: the next token, the next record, its span and its kind.
-#[derive(Clone, Copy)]
+#[derive(Clone, Copy, Debug, PartialEq, Eq)]
 pub struct Node {
     pub at: TokenPos,
     pub no: RecordNo,
@@ -42,7 +42,7 @@ pub struct Node {
 }
 
 // A tree record, but for its number: its kind, its flag, its own token, its span and how many children it has.
-#[derive(Clone, Copy)]
+#[derive(Clone, Copy, Debug, PartialEq, Eq)]
 pub struct Record {
     pub kind: u32,
     pub flag: u32,
@@ -52,7 +52,7 @@ pub struct Record {
 }
 
 // Nodes side by side: the next token, the next record, and how many.
-#[derive(Clone, Copy)]
+#[derive(Clone, Copy, Debug, PartialEq, Eq)]
 pub struct Nodes {
     pub at: TokenPos,
     pub no: RecordNo,
@@ -61,7 +61,7 @@ pub struct Nodes {
 
 // Nodes one after the other with a span: the statements of a block, from brace to brace; the imports or the contracts of a
 // program, up to the last one's.
-#[derive(Clone, Copy)]
+#[derive(Clone, Copy, Debug, PartialEq, Eq)]
 pub struct Run {
     pub at: TokenPos,
     pub no: RecordNo,
@@ -69,7 +69,7 @@ pub struct Run {
     pub span: Span,
 }
 
-#[derive(Clone, Copy)]
+#[derive(Clone, Copy, Debug, PartialEq, Eq)]
 pub struct Refusal {
     pub number: u32,
     pub span: Span,
