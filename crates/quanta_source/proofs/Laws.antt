@@ -65,7 +65,12 @@ module _ (s : List ℕ) where
   fine_one i h j l u = let same : i ≡ j = omega arith in rw same at h
 
   -- a block whose bytes before i and the byte at i pass
-  pub fine_next : (a i : ℕ) (x y : Bool) → (x ≡ true → FineIn s a i) → (y ≡ true → Fine s i) → (x && y) ≡ true → FineIn s a (i + 1)
+  pub fine_next :
+      (a i : ℕ) (x y : Bool) →
+      (x ≡ true → FineIn s a i) →
+      (y ≡ true → Fine s i) →
+      (x && y) ≡ true →
+      FineIn s a (i + 1)
   fine_next a i x y f g h = let p = both x y h in fine_join a i (i + 1) (f p.0) (fine_one i (g p.1))
 
   -- the turns of the pass
@@ -101,7 +106,8 @@ module _ (s : List ℕ) where
 
   found_later : (a e : ℕ) (r : Result Unit Fault) → Fine s a → Finds (a + 1) e r → Finds a e r
   found_later a e (Ok tt) f g = fine_join a (a + 1) e (fine_one a f) g
-  found_later a e (Err (CarriageReturn i)) f g = (omega (arith, g.0), g.1, g.2, fine_join a (a + 1) i (fine_one a f) g.3)
+  found_later a e (Err (CarriageReturn i)) f g =
+      (omega (arith, g.0), g.1, g.2, fine_join a (a + 1) i (fine_one a f) g.3)
   found_later a e (Err (Barred i)) f g = (omega (arith, g.0), g.1, g.2, g.3, fine_join a (a + 1) i (fine_one a f) g.4)
 
   finds : (n i e : ℕ) → i + n ≡ e → Finds i e (check_from n s i)
@@ -109,7 +115,11 @@ module _ (s : List ℕ) where
   finds zero i e h = λ j l u. absurd (omega arith)
   finds (suc n) i e h = at (bare_at s i) refl (barred_at s i) refl (finds n (i + 1) e (omega arith))
     where
-      at : (b : Bool) → bare_at s i ≡ b → (c : Bool) → barred_at s i ≡ c → Finds (i + 1) e (check_from n s (i + 1)) → Finds i e (cond b (Err (CarriageReturn i)) (cond c (Err (Barred i)) (check_from n s (i + 1))))
+      at :
+          (b : Bool) → bare_at s i ≡ b →
+          (c : Bool) → barred_at s i ≡ c →
+          Finds (i + 1) e (check_from n s (i + 1)) →
+          Finds i e (cond b (Err (CarriageReturn i)) (cond c (Err (Barred i)) (check_from n s (i + 1))))
       at true f c g rest = (omega arith, omega arith, f, λ j l u. absurd (omega arith))
       at false f true g rest = (omega arith, omega arith, f, g, λ j l u. absurd (omega arith))
       at false f false g rest = found_later i e (check_from n s (i + 1)) (f, g) rest

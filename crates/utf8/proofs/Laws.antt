@@ -131,7 +131,9 @@ module _ (s : List ℕ) where
   enough (suc n) zero i g h = past (suc n) i (omega arith)
   enough (suc n) (suc m) i g h =
       ap (λ f. cond (ltb i (length s)) f None)
-      (by_test (λ b. cond b (Some i) (bad_from n s (i + char_len s i)) ≡ cond b (Some i) (bad_from m s (i + char_len s i))) (eqb (char_len s i) 0)
+      (by_test
+      (λ b. cond b (Some i) (bad_from n s (i + char_len s i)) ≡ cond b (Some i) (bad_from m s (i + char_len s i)))
+      (eqb (char_len s i) 0)
       (λ y. refl)
       (λ e. let z : char_len s i ≡ 0 → ⊥ = eqb-false (char_len s i) 0 e in enough n m (i + char_len s i) (omega arith) (omega arith)))
 

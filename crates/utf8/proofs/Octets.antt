@@ -145,9 +145,12 @@ pub rest : (n : ℕ) (s : List ℕ) (i : ℕ) → length s ≤ i + n → bad_fro
 unfolding bad_from
 rest zero s i h e = rw (drop_of_length-le s {i = i} (omega arith)) none
 rest (suc n) s i h e =
-    by_test (λ b. ltb i (length s) ≡ b → cond b (cond (eqb (char_len s i) 0) (Some i) (bad_from n s (i + char_len s i))) None ≡ None → Octets (drop i s)) (ltb i (length s))
+    let later = bad_from n s (i + char_len s i) in
+    by_test
+    (λ b. ltb i (length s) ≡ b → cond b (cond (eqb (char_len s i) 0) (Some i) later) None ≡ None → Octets (drop i s))
+    (ltb i (length s))
     (λ y l g.
-    by_test (λ b. eqb (char_len s i) 0 ≡ b → cond b (Some i) (bad_from n s (i + char_len s i)) ≡ None → Octets (drop i s)) (eqb (char_len s i) 0)
+    by_test (λ b. eqb (char_len s i) 0 ≡ b → cond b (Some i) later ≡ None → Octets (drop i s)) (eqb (char_len s i) 0)
     (λ _ z k. absurd (let no : ◌≡◌ {A = ℕ} 0 1 = cc in omega arith))
     (λ _ z k.
     let q : char_len s i ≡ 0 → ⊥ = eqb-false (char_len s i) 0 z in
@@ -167,9 +170,12 @@ pub upto : (n : ℕ) (s : List ℕ) (i j : ℕ) → bad_from n s i ≡ Some j �
 unfolding bad_from
 upto zero s i j e = absurd (let no : ◌≡◌ {A = ℕ} 0 1 = cc in omega arith)
 upto (suc n) s i j e =
-    by_test (λ b. ltb i (length s) ≡ b → cond b (cond (eqb (char_len s i) 0) (Some i) (bad_from n s (i + char_len s i))) None ≡ Some j → Upto s i j) (ltb i (length s))
+    let later = bad_from n s (i + char_len s i) in
+    by_test
+    (λ b. ltb i (length s) ≡ b → cond b (cond (eqb (char_len s i) 0) (Some i) later) None ≡ Some j → Upto s i j)
+    (ltb i (length s))
     (λ y l g.
-    by_test (λ b. eqb (char_len s i) 0 ≡ b → cond b (Some i) (bad_from n s (i + char_len s i)) ≡ Some j → Upto s i j) (eqb (char_len s i) 0)
+    by_test (λ b. eqb (char_len s i) 0 ≡ b → cond b (Some i) later ≡ Some j → Upto s i j) (eqb (char_len s i) 0)
     (λ _ z k.
     let here : i ≡ j = cc in
     let q : char_len s i ≡ 0 = eqb-true (char_len s i) 0 z in
