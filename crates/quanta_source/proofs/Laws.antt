@@ -64,14 +64,17 @@ module _ (s : List ℕ) where
   pub fine_one : (i : ℕ) → Fine s i → FineIn s i (i + 1)
   fine_one i h j l u = let same : i ≡ j = omega arith in rw same at h
 
-  -- a block whose bytes before i and the byte at i pass
+  -- a block whose k first bytes and the next pass
   pub fine_next :
-      (a i : ℕ) (x y : Bool) →
-      (x ≡ true → FineIn s a i) →
-      (y ≡ true → Fine s i) →
+      (a k : ℕ) (x y : Bool) →
+      (x ≡ true → FineIn s a (a + k)) →
+      (y ≡ true → Fine s (a + k)) →
       (x && y) ≡ true →
-      FineIn s a (i + 1)
-  fine_next a i x y f g h = let p = both x y h in fine_join a i (i + 1) (f p.0) (fine_one i (g p.1))
+      FineIn s a (a + (k + 1))
+  fine_next a k x y f g h =
+      let p = both x y h in
+      let there : a + k + 1 ≡ a + (k + 1) = omega arith in
+      rw there at (fine_join a (a + k) (a + k + 1) (f p.0) (fine_one (a + k) (g p.1)))
 
   -- the turns of the pass
   pub bare_stops : (n i : ℕ) → 1 ≤ n → bare_at s i ≡ true → check_from n s i ≡ Err (CarriageReturn i)

@@ -63,9 +63,9 @@ fn quiet_block(src: &[u8], at: usize) -> bool
     ensures { result ≡ true → FineIn src.now at (at + 32) }
 {
     let mut none = true;
-    for i in at..at + 32 {
-        let c = src[i];
-        none &= !(is_bare(c, src[i + 1]) | is_lead(c));
+    for k in 0..32 {
+        let c = src[at + k];
+        none &= !(is_bare(c, src[at + k + 1]) | is_lead(c));
     }
     none
 }
@@ -76,10 +76,10 @@ fn clean_block(src: &[u8], at: usize) -> bool
     ensures { result ≡ true → FineIn src.now at (at + 32) }
 {
     let mut none = true;
-    for i in at..at + 32 {
-        let c = src[i];
-        let d = src[i + 1];
-        let e = src[i + 2];
+    for k in 0..32 {
+        let c = src[at + k];
+        let d = src[at + k + 1];
+        let e = src[at + k + 2];
         none &= !(is_bare(c, d) | is_barred(c, d, e) | is_mark(c, d, e));
     }
     none
