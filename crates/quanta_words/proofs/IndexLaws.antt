@@ -17,10 +17,9 @@ use Rattle.std.specs.Result.{is_ok}
 use Rattle.std.specs.Ordering.{nat_cmp, is_eq}
 use Rattle.std.specs.Cmp.Lexicographic.{slice_cmp, nat_list_cmp_total, nat_list_eq_equiv}
 use Rattle.std.specs.List.Sorted.{IsBinarySearchResult, IsPartitionPoint, IsPermutation}
-use Rattle.quanta_token.specs.Text.{same}
 use Rattle.quanta_words.specs.Words.{after_at, word_at, held_in}
 use Rattle.quanta_words.specs.Index.{entry, Lists, Covers}
-use Rattle.quanta_words.proofs.WordLaws.{held_from, same_eq, held_next}
+use Rattle.quanta_words.proofs.WordLaws.{held_from, not_same, held_next}
 
 -- a place with a whole record, and one without
 pub entry_in : (t : List ℕ) (i : ℕ) → after_at t i ≤ length t → entry t i ≡ word_at t i
@@ -56,15 +55,8 @@ listed_more (suc m) t f n i b h k g = (
   omega arith,
   λ w z.
       let y = all_front (λ (j : ℕ). entry t j ≢ w) (take n f) i (rw (take_more_set f n i k) at z) in
-      g w y.0 ∙ held_next m t i w h (other w (word_at t i) (λ e. y.1 (entry_in t i h ∙ sym e))),
+      g w y.0 ∙ held_next m t i w h (not_same w (word_at t i) (λ e. y.1 (entry_in t i h ∙ sym e))),
 )
-  where
-    other : (a b : List ℕ) → a ≢ b → same a b ≡ false
-    other a b h = at (same a b) refl
-      where
-        at : (x : Bool) → same a b ≡ x → x ≡ false
-        at true e = absurd (h (same_eq a b e))
-        at false e = refl
 
 -- the same places in another order
 pub lists_again : (t f g : List ℕ) → IsPermutation f g → Lists t f → Lists t g
