@@ -40,7 +40,7 @@ module _ (s : List ℕ) where
   pub tests_fine : (i : ℕ) → not (is_bare (c i) (d i) || is_barred (c i) (d i) (e i) || is_mark (c i) (d i) (e i)) ≡ true → Fine s i
   unfolding bare_at
   tests_fine i h =
-      let p = or_parts (is_bare (c i) (d i) || is_barred (c i) (d i) (e i)) (is_mark (c i) (d i) (e i)) (not-true _ h) in
+      let p = or_parts _ (is_mark (c i) (d i) (e i)) (not-true _ h) in
       let q = or_parts (is_bare (c i) (d i)) (is_barred (c i) (d i) (e i)) p.0 in
       (q.0, rw (barred_by_bytes s i, q.1, p.1))
 

@@ -114,7 +114,8 @@ fn barred_at(src: &[u8], i: usize) -> bool
 
 // Past offset 0, where FEFF is not barred, if nothing at fault stands there.
 fn past_first(src: &[u8]) -> usize
-    ensures { (result ≤ length src.now) × FineIn src.now 0 result }
+    ensures within { result ≤ length src.now }
+    ensures fine { FineIn src.now 0 result }
 {
     if src.is_empty() || bare_at(src, 0) || barred_at(src, 0) {
         return 0;
@@ -124,7 +125,8 @@ fn past_first(src: &[u8]) -> usize
 
 // Past the blocks at the front that are clean: what is left is shorter than a block, or a block with something at fault.
 fn skip_blocks(src: &[u8]) -> usize
-    ensures { (result ≤ length src.now) × FineIn src.now 0 result }
+    ensures within { result ≤ length src.now }
+    ensures fine { FineIn src.now 0 result }
 {
     let mut at = past_first(src);
     while 34 <= src.len() - at {

@@ -7,7 +7,8 @@ use quanta_token::token::{DATE, STR};
 // How many bytes are taken off before a token's text: a quote of a Str, the `@` of a Date.
 #[tactic(auto, unfolding(crate::specs::Texts::front))]
 fn front_of(kind: u32) -> usize
-    ensures { (result ≡ front kind) × (result ≤ 1) }
+    ensures value { result ≡ front kind }
+    ensures few { result ≤ 1 }
 {
     if kind == STR || kind == DATE { 1 } else { 0 }
 }
@@ -15,7 +16,8 @@ fn front_of(kind: u32) -> usize
 // How many are taken off behind it: a quote of a Str.
 #[tactic(auto, unfolding(crate::specs::Texts::back))]
 fn back_of(kind: u32) -> usize
-    ensures { (result ≡ back kind) × (result ≤ 1) }
+    ensures value { result ≡ back kind }
+    ensures few { result ≤ 1 }
 {
     if kind == STR { 1 } else { 0 }
 }

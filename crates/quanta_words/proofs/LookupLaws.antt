@@ -31,4 +31,10 @@ pub sift_more :
     Sifted t f n i →
     (m : ℕ) × (length t < m + after_at t i) × Sifted t (set f k 1) m (after_at t i)
 sift_more zero t f i k b l h e q g = absurd (omega arith)
-sift_more (suc n) t f i k b l h e q g = (n, omega arith, λ w z. let r = stored f k (key_of w) q z in g w r.1 ∙ held_next n t i w h (not_same w (word_at t i) (λ x. r.0 (ap key_of x ∙ sym e))))
+sift_more (suc n) t f i k b l h e q g = (
+  n,
+  omega arith,
+  λ w z.
+      let r = stored f k (key_of w) q z in
+      g w r.1 ∙ held_next n t i w h (not_same w (word_at t i) (λ x. r.0 (ap key_of x ∙ sym e))),
+)

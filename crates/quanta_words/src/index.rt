@@ -26,7 +26,9 @@ pub fn probe(table: &[u8], index: &[u16], word: &[u8]) -> bool
 
 // The places of the records, and how many there are; or 0 where there is no room for one.
 fn places(table: &[u8], index: &mut [u16]) -> usize
-    ensures { (result ≤ length index.old) × (length index.new ≡ length index.old) × (0 < result → Lists table.now (take result index.new)) }
+    ensures within { result ≤ length index.old }
+    ensures kept { length index.new ≡ length index.old }
+    ensures lists { 0 < result → Lists table.now (take result index.new) }
 {
     let mut n = 0;
     let mut i = 0;

@@ -92,7 +92,9 @@ pub fits_inside : (f : List Octet) (s : List ℕ) → fits f s ≡ true → leng
 unfolding fits
 fits_inside [] s h = omega arith
 fits_inside (o ∷ f) [] h = absurd (false≢true h)
-fits_inside (o ∷ f) (c ∷ s) h = let k = fits_inside f s (and_parts (leb o.low c && leb c o.high) (fits f s) h).1 in omega arith
+fits_inside (o ∷ f) (c ∷ s) h =
+    let k = fits_inside f s (and_parts (leb o.low c && leb c o.high) (fits f s) h).1 in
+    omega arith
 
 form_inside : (fs : List (List Octet)) (s : List ℕ) → form_len fs s ≤ length s
 unfolding form_len

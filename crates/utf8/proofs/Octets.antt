@@ -70,7 +70,9 @@ yes false h = absurd h
 other_range : (o p : Octet) (c : ℕ) → T (ltb o.high p.low || ltb p.high o.low) → p.low ≤ c → c ≤ p.high → leb o.low c && leb c o.high ≡ false
 other_range o p c h l u =
     by_test (λ b. ltb o.high p.low ≡ b → T (b || ltb p.high o.low) → leb o.low c && leb c o.high ≡ false) (ltb o.high p.low)
-    (λ y e g. let k : o.high < c = omega (arith, ltb-true o.high p.low e) in rw (lt-leb c o.high k) (and-false (leb o.low c)))
+    (λ y e g.
+    let k : o.high < c = omega (arith, ltb-true o.high p.low e) in
+    rw (lt-leb c o.high k) (and-false (leb o.low c)))
     (λ n e g. let k : c < o.low = omega (arith, ltb-true p.high o.low (yes (ltb p.high o.low) g)) in rw (lt-leb o.low c k))
     refl
     h
