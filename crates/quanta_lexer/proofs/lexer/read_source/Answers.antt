@@ -33,7 +33,10 @@ unfolding reading or_else
 returns-then-bad-words c =
     let short : length c.args.words.now ≤ table_limit = omega arith in
     let e = c.refused-then-bad-words.ensures in
-    record { answer = rw (le-ltb _ _ short, ← c.check_words-bad.ensures, lt-ltb _ _ c.if-bad-words.true) e; words = unwritten _ _ _ e }
+    record {
+      answer = rw (le-ltb _ _ short, ← c.check_words-bad.ensures, lt-ltb _ _ c.if-bad-words.true) e;
+      words = unwritten _ _ _ e;
+    }
 
 pub returns-then-src-gt-SOURCE_LIMIT : goal.returns-then-src-gt-SOURCE_LIMIT
 unfolding reading or_else
@@ -41,7 +44,10 @@ returns-then-src-gt-SOURCE_LIMIT c =
     let short : length c.args.words.now ≤ table_limit = omega arith in
     let e = c.refused-then-src-gt-SOURCE_LIMIT.ensures in
     let well = le-ltb _ _ c.if-bad-words.false in
-    record { answer = rw (le-ltb _ _ short, ← c.check_words-bad.ensures, well, lt-ltb _ _ c.if-src-gt-SOURCE_LIMIT.true) e; words = unwritten _ _ _ e }
+    record {
+      answer = rw (le-ltb _ _ short, ← c.check_words-bad.ensures, well, lt-ltb _ _ c.if-src-gt-SOURCE_LIMIT.true) e;
+      words = unwritten _ _ _ e;
+    }
 
 pub overflow_add-i : goal.overflow_add-i
 overflow_add-i c =
@@ -55,7 +61,10 @@ returns-in-Some c =
     let late =
     past-limits c.args.edition _ _ _ short c.check_words-bad.ensures c.if-bad-words.false
     c.if-src-gt-SOURCE_LIMIT.false in
-    record { answer = rw (late, sym c.first_bad.ensures ∙ c.in-Some.is) e; words = unwritten _ _ _ e }
+    record {
+      answer = rw (late, sym c.first_bad.ensures ∙ c.in-Some.is) e;
+      words = unwritten _ _ _ e;
+    }
 
 pub overflow_add-i-in-Err-CarriageReturn : goal.overflow_add-i-in-Err-CarriageReturn
 overflow_add-i-in-Err-CarriageReturn c =
@@ -100,4 +109,7 @@ returns-in-Ok c =
     let late =
     past-limits c.args.edition _ _ _ short c.check_words-bad.ensures c.if-bad-words.false
     c.if-src-gt-SOURCE_LIMIT.false in
-    record { answer = rw (late, well, sym c.check_source.ensures ∙ c.in-Ok.is) read.0; words = written _ _ _ _ read.0 read.1 }
+    record {
+      answer = rw (late, well, sym c.check_source.ensures ∙ c.in-Ok.is) read.0;
+      words = written _ _ _ _ read.0 read.1;
+    }
