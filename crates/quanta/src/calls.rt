@@ -4,14 +4,37 @@
 // The five public calls. Each reads the tokens, then the phrase and Eof behind it, and leaves zeros where no record is.
 ghost use Rattle.std.specs.Prelude.{length};
 ghost use Rattle.quanta_grammar.specs.Productions.{program_call, item_call, stmt_call, expr_call, type_call};
+ghost use Rattle.quanta_parser.specs.Whole.{symbol_of};
 ghost use Rattle.quanta_reading.specs.Reading.{Conforms};
 ghost use Rattle.quanta_reading.specs.Demand3.{Faithful};
 
-use quanta_lexer::lexer::{Answer as Lexed, tokenize};
-use quanta_parser::whole::{whole_expr, whole_item, whole_program, whole_stmt, whole_type};
-use quanta_reading::answer::Answer;
-use quanta_reading::finish::{finish, no_token_room, refuse};
+use quanta_lexer::lexer::tokenize;
+use quanta_parser::whole::{Call, whole};
+use quanta_reading::answer::{Counts, Failure};
+use quanta_reading::finish::{finish, refuse};
 use quanta_token::edition::Edition;
+
+// A call by what it reads.
+pub fn read(
+    call: Call,
+    edition: Edition,
+    source: &[u8],
+    words: &[u8],
+    tokens: &mut [u32],
+    tree: &mut [u32],
+) -> Result<Counts, Failure>
+    ensures { Conforms edition (symbol_of call) source.now words.now (length tokens.old) (length tree.old) result tokens.new tree.new
+        × Faithful edition (symbol_of call) source.now words.now (length tokens.old) (length tree.old) result tree.new }
+{
+    match tokenize(edition, source, words, tokens) {
+        Err(failure) => refuse(tree, failure),
+        Ok(n) => {
+            let used = 3 * n;
+            let parsed = whole(call, edition, source, &tokens[..used], tree);
+            finish(tree, n, parsed)
+        }
+    }
+}
 
 // A program.
 pub fn parse(
@@ -20,19 +43,11 @@ pub fn parse(
     words: &[u8],
     tokens: &mut [u32],
     tree: &mut [u32],
-) -> Answer
+) -> Result<Counts, Failure>
     ensures { Conforms edition program_call source.now words.now (length tokens.old) (length tree.old) result tokens.new tree.new
         × Faithful edition program_call source.now words.now (length tokens.old) (length tree.old) result tree.new }
 {
-    match tokenize(edition, source, words, tokens) {
-        Lexed::Refused { number, start, end } => refuse(tree, number, start, end),
-        Lexed::Short(need) => no_token_room(tree, need),
-        Lexed::Accepted(n) => {
-            let used = 3 * n;
-            let parsed = whole_program(edition, source, &tokens[..used], tree);
-            finish(tree, n, parsed)
-        }
-    }
+    read(Call::Program, edition, source, words, tokens, tree)
 }
 
 // One item of a contract.
@@ -42,19 +57,11 @@ pub fn parse_item(
     words: &[u8],
     tokens: &mut [u32],
     tree: &mut [u32],
-) -> Answer
+) -> Result<Counts, Failure>
     ensures { Conforms edition item_call source.now words.now (length tokens.old) (length tree.old) result tokens.new tree.new
         × Faithful edition item_call source.now words.now (length tokens.old) (length tree.old) result tree.new }
 {
-    match tokenize(edition, source, words, tokens) {
-        Lexed::Refused { number, start, end } => refuse(tree, number, start, end),
-        Lexed::Short(need) => no_token_room(tree, need),
-        Lexed::Accepted(n) => {
-            let used = 3 * n;
-            let parsed = whole_item(edition, source, &tokens[..used], tree);
-            finish(tree, n, parsed)
-        }
-    }
+    read(Call::Item, edition, source, words, tokens, tree)
 }
 
 // One statement.
@@ -64,19 +71,11 @@ pub fn parse_stmt(
     words: &[u8],
     tokens: &mut [u32],
     tree: &mut [u32],
-) -> Answer
+) -> Result<Counts, Failure>
     ensures { Conforms edition stmt_call source.now words.now (length tokens.old) (length tree.old) result tokens.new tree.new
         × Faithful edition stmt_call source.now words.now (length tokens.old) (length tree.old) result tree.new }
 {
-    match tokenize(edition, source, words, tokens) {
-        Lexed::Refused { number, start, end } => refuse(tree, number, start, end),
-        Lexed::Short(need) => no_token_room(tree, need),
-        Lexed::Accepted(n) => {
-            let used = 3 * n;
-            let parsed = whole_stmt(&tokens[..used], tree);
-            finish(tree, n, parsed)
-        }
-    }
+    read(Call::Stmt, edition, source, words, tokens, tree)
 }
 
 // One expression.
@@ -86,19 +85,11 @@ pub fn parse_expr(
     words: &[u8],
     tokens: &mut [u32],
     tree: &mut [u32],
-) -> Answer
+) -> Result<Counts, Failure>
     ensures { Conforms edition expr_call source.now words.now (length tokens.old) (length tree.old) result tokens.new tree.new
         × Faithful edition expr_call source.now words.now (length tokens.old) (length tree.old) result tree.new }
 {
-    match tokenize(edition, source, words, tokens) {
-        Lexed::Refused { number, start, end } => refuse(tree, number, start, end),
-        Lexed::Short(need) => no_token_room(tree, need),
-        Lexed::Accepted(n) => {
-            let used = 3 * n;
-            let parsed = whole_expr(&tokens[..used], tree);
-            finish(tree, n, parsed)
-        }
-    }
+    read(Call::Expr, edition, source, words, tokens, tree)
 }
 
 // One type.
@@ -108,17 +99,9 @@ pub fn parse_type(
     words: &[u8],
     tokens: &mut [u32],
     tree: &mut [u32],
-) -> Answer
+) -> Result<Counts, Failure>
     ensures { Conforms edition type_call source.now words.now (length tokens.old) (length tree.old) result tokens.new tree.new
         × Faithful edition type_call source.now words.now (length tokens.old) (length tree.old) result tree.new }
 {
-    match tokenize(edition, source, words, tokens) {
-        Lexed::Refused { number, start, end } => refuse(tree, number, start, end),
-        Lexed::Short(need) => no_token_room(tree, need),
-        Lexed::Accepted(n) => {
-            let used = 3 * n;
-            let parsed = whole_type(edition, source, &tokens[..used], tree);
-            finish(tree, n, parsed)
-        }
-    }
+    read(Call::Type, edition, source, words, tokens, tree)
 }

@@ -6,12 +6,14 @@
 ghost use Rattle.std.specs.Prelude.{◌≡◌, length};
 ghost use Rattle.quanta_text.specs.Places.{place_of};
 ghost use Rattle.quanta_grammar.specs.Productions.{program_call, item_call, stmt_call, expr_call, type_call};
+ghost use Rattle.quanta_parser.specs.Whole.{symbol_of};
 ghost use Rattle.quanta_reading.specs.Values.{Exported};
 
-use crate::calls::{parse, parse_expr, parse_item, parse_stmt, parse_type};
+use crate::calls::read;
+use quanta_parser::whole::Call;
 use quanta_reading::outcome::{Outcome, numbers_of, unknown_edition};
 use quanta_text::place::place;
-use quanta_token::edition::{Numbered, edition_of};
+use quanta_token::edition::Edition;
 
 // Line and column, counted from 1; 0 and 0 where there is no such place.
 #[repr(C)]
@@ -19,6 +21,26 @@ use quanta_token::edition::{Numbered, edition_of};
 pub struct Place {
     pub line: u64,
     pub column: u64,
+}
+
+// A call by what it reads, in document 01's numbers.
+fn exported(
+    call: Call,
+    edition: u32,
+    source: &[u8],
+    words: &[u8],
+    tokens: &mut [u32],
+    tree: &mut [u32],
+) -> Outcome
+    ensures { Exported edition (symbol_of call) source.now words.now (length tokens.old) (length tree.old) result tokens.new tree.new }
+{
+    match Edition::try_from(edition) {
+        Err(_) => unknown_edition(tokens, tree),
+        Ok(edition) => {
+            let answer = read(call, edition, source, words, tokens, tree);
+            numbers_of(answer)
+        }
+    }
 }
 
 #[unsafe(no_mangle)]
@@ -31,13 +53,7 @@ pub extern "C" fn quanta_parse(
 ) -> Outcome
     ensures { Exported edition program_call source.now words.now (length tokens.old) (length tree.old) result tokens.new tree.new }
 {
-    match edition_of(edition) {
-        Numbered::Unknown => unknown_edition(tokens, tree),
-        Numbered::Known(edition) => {
-            let answer = parse(edition, source, words, tokens, tree);
-            numbers_of(answer)
-        }
-    }
+    exported(Call::Program, edition, source, words, tokens, tree)
 }
 
 #[unsafe(no_mangle)]
@@ -50,13 +66,7 @@ pub extern "C" fn quanta_parse_item(
 ) -> Outcome
     ensures { Exported edition item_call source.now words.now (length tokens.old) (length tree.old) result tokens.new tree.new }
 {
-    match edition_of(edition) {
-        Numbered::Unknown => unknown_edition(tokens, tree),
-        Numbered::Known(edition) => {
-            let answer = parse_item(edition, source, words, tokens, tree);
-            numbers_of(answer)
-        }
-    }
+    exported(Call::Item, edition, source, words, tokens, tree)
 }
 
 #[unsafe(no_mangle)]
@@ -69,13 +79,7 @@ pub extern "C" fn quanta_parse_stmt(
 ) -> Outcome
     ensures { Exported edition stmt_call source.now words.now (length tokens.old) (length tree.old) result tokens.new tree.new }
 {
-    match edition_of(edition) {
-        Numbered::Unknown => unknown_edition(tokens, tree),
-        Numbered::Known(edition) => {
-            let answer = parse_stmt(edition, source, words, tokens, tree);
-            numbers_of(answer)
-        }
-    }
+    exported(Call::Stmt, edition, source, words, tokens, tree)
 }
 
 #[unsafe(no_mangle)]
@@ -88,13 +92,7 @@ pub extern "C" fn quanta_parse_expr(
 ) -> Outcome
     ensures { Exported edition expr_call source.now words.now (length tokens.old) (length tree.old) result tokens.new tree.new }
 {
-    match edition_of(edition) {
-        Numbered::Unknown => unknown_edition(tokens, tree),
-        Numbered::Known(edition) => {
-            let answer = parse_expr(edition, source, words, tokens, tree);
-            numbers_of(answer)
-        }
-    }
+    exported(Call::Expr, edition, source, words, tokens, tree)
 }
 
 #[unsafe(no_mangle)]
@@ -107,13 +105,7 @@ pub extern "C" fn quanta_parse_type(
 ) -> Outcome
     ensures { Exported edition type_call source.now words.now (length tokens.old) (length tree.old) result tokens.new tree.new }
 {
-    match edition_of(edition) {
-        Numbered::Unknown => unknown_edition(tokens, tree),
-        Numbered::Known(edition) => {
-            let answer = parse_type(edition, source, words, tokens, tree);
-            numbers_of(answer)
-        }
-    }
+    exported(Call::Type, edition, source, words, tokens, tree)
 }
 
 #[unsafe(no_mangle)]

@@ -1,6 +1,6 @@
 -- The clauses one by one: each way through their readers.
 -- Assumes nothing.
-use Rattle.std.specs.Prelude.{Err, Ok, Result}
+use Rattle.std.specs.Prelude.{Err, IsErrAnd, Ok, Result}
 use mathlib.Core.Path.{◌≡◌, refl, ap, sym, subst, ◌∙◌}
 use mathlib.Core.Bool.{Bool, true, false, not}
 use mathlib.Core.List.{List, [], ◌∷◌}
@@ -8,6 +8,7 @@ use mathlib.Core.Logic.{⊎_elim, inl, inr}
 use Prim.Native.Nat.{ℕ, ◌+◌, ◌<◌, ◌≤◌}
 use native.Mathlib.Omega.{arith}
 use lib.Dec.{T, eqb, eqb→eq}
+use lib.ListN.{length}
 use borrow.Author.Tests.{ne_eqb}
 use Rattle.grammar.specs.Grammar.{no_tok, Items, one, sub, has}
 use Rattle.grammar.specs.Records.{Acc, Row, none, put, glue, count, Span as Reached, nil, span, or_else, fresh, nothing, own, word, pass, fold, apart, widens, replaces, Mark, Step, make, plus, start, leave, beside, finish, leaf_kind, flag_of, pick_n}
@@ -15,7 +16,9 @@ use Rattle.grammar.specs.Reader.{use', pick}
 use Rattle.grammar.specs.Fused.{Outcome, left}
 use Rattle.grammar.proofs.Lines.{mark}
 use Rattle.grammar.proofs.Table.{both, or_cases}
-use Rattle.quanta_token.specs.TokenKind.{TokenKind, code, Ident, Int, Writes, Reads, Conserves, Mints, Burns, Limits, Denies, After, From, LParen, RParen}
+use Rattle.quanta_token.specs.TokenKind.{TokenKind, code, Ident, Int}
+use Rattle.quanta_token.specs.TokenKind.{Writes, Reads, Conserves, Mints, Burns, Limits, Denies}
+use Rattle.quanta_token.specs.TokenKind.{After, From, LParen, RParen, Comma}
 use Rattle.quanta_grammar.specs.FineKind.{fine, UnitWord, AfterSpan}
 use Rattle.quanta_grammar.specs.NodeKind.{NodeKind, node_code, flag_code, has_from, has_duration, after_node, name_node, int_node}
 use Rattle.quanta_grammar.specs.RefusalKind.{refusal_code, expected_identifier}
@@ -27,20 +30,20 @@ use Rattle.quanta_cursor.specs.declared.parser.TokenPos.{TokenPos}
 use Rattle.quanta_cursor.specs.declared.parser.RecordNo.{RecordNo}
 use Rattle.quanta_cursor.specs.declared.parser.Span.{Span}
 use Rattle.quanta_cursor.specs.declared.parser.Node.{Node}
-use Rattle.quanta_cursor.specs.declared.parser.Nodes.{Nodes}
 use Rattle.quanta_cursor.specs.declared.parser.Refusal.{Refusal}
 use Rattle.quanta_cursor.specs.Tokens.{size, kind_at, from, fine_at, tok_at, Ready}
 use Rattle.quanta_cursor.specs.Tree.{rec_of, put_rec}
 use Rattle.quanta_cursor.specs.Answers.{single, Failed, Took, Meets}
 use Rattle.quanta_cursor.specs.Cursor.{joined, span_at, Expects, leaf_rec, leaf_node, Words, Closes}
-use Rattle.quanta_cursor.specs.Lists.{TookOn, words}
 use Rattle.quanta_cursor.proofs.Sets.{coarse, fine_in, fine_kind, plain_at_lem, is_one, not_one}
 use Rattle.quanta_cursor.proofs.Places.{past_in, past_as, laid_none, laid_glue, laid_word, all_ready, all_few, ready_past, ready_word, ready_behind}
 use Rattle.quanta_cursor.proofs.Nodes.{node_of, node_is, words_are}
+use Rattle.quanta_cursor.proofs.Exits.{handed}
 use Rattle.quanta_cursor.proofs.Meeting.{next_of, lacks_of, word_of, no_word_of}
 use Rattle.quanta_cursor.proofs.Doing.{Doing, picks, skips, begin, eat, eat_fine, lack, bring, fails, fold_in, fold_fails, over, ends}
-use Rattle.quanta_cursor.proofs.Lists.{glue_none}
+use Rattle.quanta_cursor.proofs.Lists.{glue_none, Rolling as Names}
 use Rattle.quanta_cursor.proofs.WordLists.{names_law, first_bad_lem}
+use Rattle.quanta_cursor.proofs.WordLists.{list_begun, list_ends, comma_past, list_bad, list_on, list_less}
 use Rattle.quanta_cursor.proofs.Under.{Under, passes, listed_in, unlisted, closed_by}
 use Rattle.quanta_clause.specs.declared.decl.AfterTarget.{AfterTarget}
 use Rattle.quanta_clause.specs.Units.{is_unit, is_duration}
@@ -67,6 +70,10 @@ Away (r ∷ rs) k = (k ≡ code r.0 → ⊥) × Away rs k
 pub kind_none : (rs : List (TokenKind × NodeKind)) (k : ℕ) → Away rs k → kind_in rs k ≡ node_code after_node
 kind_none [] k a = refl
 kind_none (r ∷ rs) k a = ap (λ (b : Bool). pick_n b (node_code r.1) (kind_in rs k)) (ne_eqb k (code r.0) a.0) ∙ kind_none rs k a.1
+
+-- a name, as `expect_ident` answers
+abbrev pub Named : List ℕ → List ℕ → ℕ → ℕ → Result Node Refusal → List ℕ → Type 0
+Named ws t p n r t' = Words name (node_code name_node) (refusal_code expected_identifier) ws t p n r t'
 
 -- a name leaves the record of a name
 name_kind : (src : Text) (ws : List ℕ) (i : ℕ) → T (has name (kind_at ws i)) → leaf_kind outs.leafs (fine_at src ws i) ≡ node_code name_node
@@ -123,43 +130,52 @@ module _ (src : Text) (ws : List ℕ) (i a : ℕ) (h : i < size ws) {p : ℕ} (q
       (λ e. opening e (record { doing = eat (begin src ws i h clause denies a fresh (chosen (code Denies) tt e) refl) tt h (is_one (code Denies) e) q; flagless = λ j. refl }))
 
 -- A CLAUSE OF ONE NAME
-module _ (src : Text) (ws : List ℕ) (a : ℕ) {i n p : ℕ} (g : Ready ws i n) (w : T (has of_name (kind_at ws i))) (q : p ≡ i + 1) where
+module _ {ws : List ℕ} {i n p : ℕ} (q : p ≡ i + 1) (b : Ready ws i n × T (has of_name (kind_at ws i))) where
   pub name_past : Ready ws p n
-  name_past = ready_past g (past_in of_name (λ u. u) g.closed g.inside w) q
+  name_past = ready_past b.0 (past_in of_name (λ u. u) b.0.closed b.0.inside b.1) q
 
-  module _ {t t₁ : List ℕ} {r : Result Node Refusal} (v : Words name (node_code name_node) (refusal_code expected_identifier) ws t p n r t₁) where
+  pub name_ready : {t t₁ : List ℕ} {r : Result Node Refusal} {m : Node} → Named ws t p n r t₁ → r ≡ Ok m
+      → Ready ws m.at.0 m.no.0
+  name_ready v z =
+      let d = word_of z v in
+      subst (λ (m : Node). Ready ws m.at.0 m.no.0) (sym d.1)
+      (ready_word name_past (past_in name (λ u. u) b.0.closed name_past.inside d.0) refl refl)
+
+module _ (src : Text) (a : ℕ) {ws : List ℕ} {i n p : ℕ} (q : p ≡ i + 1)
+    (b : Ready ws i n × T (has of_name (kind_at ws i))) where
+  module _ {t t₁ : List ℕ} {r : Result Node Refusal} (v : Named ws t p n r t₁) where
     pub name_bad : {e : Refusal} → r ≡ Err e → Failed (reads clause a (from src ws i) fresh) e
-    name_bad z = let d = no_word_of z v in lack (name_opening src ws i a g.inside q w).doing tt g.closed name_past.inside d.0 tt d.1
+    name_bad z =
+        let d = no_word_of z v in
+        lack (name_opening src ws i a b.0.inside q b.1).doing tt b.0.closed (name_past q b).inside d.0 tt d.1
 
     module _ {m : Node} (z : r ≡ Ok m) where
-      pub name_ready : Ready ws m.at.0 m.no.0
-      name_ready = let d = word_of z v in subst (λ (m : Node). Ready ws m.at.0 m.no.0) (sym d.1) (ready_word name_past (past_in name (λ u. u) g.closed name_past.inside d.0) refl refl)
-
       pub name_took : {u : Node} {t₂ : List ℕ} → Ends ws t₁ i m u t₂ → Took (reads clause a (from src ws i) fresh) src ws t n u t₂
       name_took {u} {t₂} x =
           let d = word_of z v in
-          let o = name_opening src ws i a g.inside q w in
+          let o = name_opening src ws i a b.0.inside q b.1 in
           let k = clause_kind (kind_at ws i) in
           let y = subst (λ (m : Node). Ends ws t₁ i m u t₂) d.1 x in
           subst (λ (u : Node). Took (reads clause a (from src ws i) fresh) src ws t n u t₂) (sym y.node)
           (ends (rec_of k 0 i (joined (span_at ws i) (span_at ws p)).start (joined (span_at ws i) (span_at ws p)).end 1)
-          (eat o.doing tt name_past.inside d.0 refl) refl
+          (eat o.doing tt (name_past q b).inside d.0 refl) refl
           (ap (λ (f : ℕ). single (rec_of k (f + 0) i (joined (span_at ws i) (span_at ws p)).start (joined (span_at ws i) (span_at ws p)).end 1) (put none (leaf_rec ws p (leaf_kind outs.leafs (fine_at src ws p))) none) (joined (span_at ws i) (span_at ws p))) (o.flagless (fine_at src ws i))
           ∙ ap (λ (j : ℕ). single (rec_of k 0 i (joined (span_at ws i) (span_at ws p)).start (joined (span_at ws i) (span_at ws p)).end 1) (put none (leaf_rec ws p j) none) (joined (span_at ws i) (span_at ws p))) (name_kind src ws p d.0))
           refl (laid_word (leaf_rec ws p (node_code name_node)) laid_none d.2 refl) y.words refl
-          (past_in name (λ u. u) g.closed name_past.inside d.0))
+          (past_in name (λ u. u) b.0.closed (name_past q b).inside d.0))
 
 -- A CLAUSE OF ONE EXPRESSION
-module _ (src : Text) (ws : List ℕ) (a : ℕ) {i n p : ℕ} (g : Ready ws i n) (w : T (has of_expr (kind_at ws i))) (q : p ≡ i + 1) where
-  pub expr_past : Ready ws p n
-  expr_past = ready_past g (past_in of_expr (λ u. u) g.closed g.inside w) q
+pub expr_past : {ws : List ℕ} {i n p : ℕ} → p ≡ i + 1 → Ready ws i n × T (has of_expr (kind_at ws i)) → Ready ws p n
+expr_past q b = ready_past b.0 (past_in of_expr (λ u. u) b.0.closed b.0.inside b.1) q
 
+module _ (src : Text) (a : ℕ) {ws : List ℕ} {i n p : ℕ} (q : p ≡ i + 1)
+    (b : Ready ws i n × T (has of_expr (kind_at ws i))) where
   pub expr_bad : {e : Refusal} → Failed (reads expr a (from src ws p) fresh) e → Failed (reads clause a (from src ws i) fresh) e
-  expr_bad f = fails (expr_opening src ws i a g.inside q w).doing f
+  expr_bad f = fails (expr_opening src ws i a b.0.inside q b.1).doing f
 
   pub expr_took : {t t₁ : List ℕ} {m u : Node} {t₂ : List ℕ} → Took (reads expr a (from src ws p) fresh) src ws t n m t₁ → Ends ws t₁ i m u t₂ → Took (reads clause a (from src ws i) fresh) src ws t n u t₂
   expr_took {t} {t₁} {m} {u} {t₂} k x =
-      let o = expr_opening src ws i a g.inside q w in
+      let o = expr_opening src ws i a b.0.inside q b.1 in
       let c = clause_kind (kind_at ws i) in
       subst (λ (u : Node). Took (reads clause a (from src ws i) fresh) src ws t n u t₂) (sym x.node)
       (ends (rec_of c 0 i (joined (span_at ws i) m.span).start (joined (span_at ws i) m.span).end 1)
@@ -172,91 +188,147 @@ pub first_ready : {ws : List ℕ} {i n : ℕ} {y : Result TokenPos Refusal} {p :
 first_ready v z g = let w = next_of z v in ready_behind (code LParen) (λ u. u) g w.0 w.1
 
 module _ {ws t : List ℕ} {i n : ℕ} {y : Result TokenPos Refusal} (v : Expects ws i (code LParen) y) where
-  pub first_unopened : {e : Refusal} {t' : List ℕ} → y ≡ Err e → FirstName ws t i n (Err e) t'
-  first_unopened z = record { by = inr (lacks_of z v) }
+  pub first_unopened : {e : Refusal} {r : Result Node Refusal} {t' : List ℕ} → y ≡ Err e → IsErrAnd r (λ y. y ≡ e)
+      → FirstName ws t i n r t'
+  first_unopened {t' = t'} z h =
+      subst (λ (r : Result Node Refusal). FirstName ws t i n r t') (sym (handed h)) (record { by = inr (lacks_of z v) })
 
   module _ {p : TokenPos} (z : y ≡ Ok p) where
-    first_by : (r : Result Node Refusal) {t' : List ℕ} → Words name (node_code name_node) (refusal_code expected_identifier) ws t (i + 1) n r t' → First ws t i n r t'
+    first_by : (r : Result Node Refusal) {t' : List ℕ} → Named ws t (i + 1) n r t' → First ws t i n r t'
     first_by (Ok m) x = ((next_of z v).0, x)
     first_by (Err e) x = inl ((next_of z v).0, x)
 
-    pub first_inside : {r : Result Node Refusal} {t' : List ℕ} → Words name (node_code name_node) (refusal_code expected_identifier) ws t p.0 n r t' → FirstName ws t i n r t'
-    first_inside {r} {t'} x = record { by = first_by r (subst (λ (j : ℕ). Words name (node_code name_node) (refusal_code expected_identifier) ws t j n r t') (next_of z v).1 x) }
+    pub first_inside : {r : Result Node Refusal} {t' : List ℕ} → Named ws t p.0 n r t' → FirstName ws t i n r t'
+    first_inside {r} {t'} x =
+        record { by = first_by r (subst (λ (j : ℕ). Named ws t j n r t') (next_of z v).1 x) }
 
-module _ (src : Text) (ws : List ℕ) (a : ℕ) {i n p : ℕ} (g : Ready ws i n) (w : T (has of_names (kind_at ws i))) (q : p ≡ i + 1) where
+module _ {ws : List ℕ} {i n p : ℕ} (q : p ≡ i + 1) (g : Ready ws i n) (w : T (has of_names (kind_at ws i))) where
   pub names_past : Ready ws p n
   names_past = ready_past g (past_in of_names (λ u. u) g.closed g.inside w) q
 
-  abbrev pub behind : Acc
-  behind = leave outs own widens (tok_at src ws i) fresh
+  abbrev behind : Text → Acc
+  behind src = leave outs own widens (tok_at src ws i) fresh
 
-  module _ {t : List ℕ} where
-    begun : Under (reads clause a (from src ws i) fresh) src ws (tok_at src ws i) (names_marks (clause_kind (kind_at ws i))) (one (code LParen ∷ []) ∷ one name ∷ sub more_names ∷ one (code RParen ∷ []) ∷ []) a p behind t n t n
+  module _ (src : Text) (a : ℕ) {t : List ℕ} where
+    begun : Under (reads clause a (from src ws i) fresh) src ws (tok_at src ws i)
+        (names_marks (clause_kind (kind_at ws i)))
+        (one (code LParen ∷ []) ∷ one name ∷ sub more_names ∷ one (code RParen ∷ []) ∷ []) a p (behind src) t n t n
     begun = record { doing = (names_opening src ws i a g.inside q w).doing; laid = laid_none; ready = names_past }
 
     inside : kind_at ws p ≡ code LParen
-        → Under (reads clause a (from src ws i) fresh) src ws (tok_at src ws i) (mark word pass apart [] ∷ mark nothing fold apart [] ∷ mark nothing pass widens (make (clause_kind (kind_at ws i)) ∷ []) ∷ []) (one name ∷ sub more_names ∷ one (code RParen ∷ []) ∷ []) a (p + 1) behind t n t n
+        → Under (reads clause a (from src ws i) fresh) src ws (tok_at src ws i)
+        (mark word pass apart [] ∷ mark nothing fold apart []
+        ∷ mark nothing pass widens (make (clause_kind (kind_at ws i)) ∷ []) ∷ [])
+        (one name ∷ sub more_names ∷ one (code RParen ∷ []) ∷ []) a (p + 1) (behind src) t n t n
     inside e = passes begun tt (λ u. u) (is_one (code LParen) e) refl
 
     first_lacks : {e : Refusal} {t₁ : List ℕ} → First ws t p n (Err e) t₁ → Failed (reads clause a (from src ws i) fresh) e
     first_lacks f =
-        ⊎_elim (λ z. unlisted (inside z.0) (first_bad_lem names_law (inside z.0).ready z.1 refl src (tok_at src ws i) a behind))
+        ⊎_elim
+        (λ z. unlisted (inside z.0)
+        (first_bad_lem names_law (inside z.0).ready z.1 refl src (tok_at src ws i) a (behind src)))
         (λ z. lack begun.doing tt g.closed names_past.inside (not_one (code LParen) z.0) tt z.1) f
 
-    module _ {t₁ : List ℕ} {y : Result Node Refusal} (v : FirstName ws t p n y t₁) where
-      pub names_none : {e : Refusal} → y ≡ Err e → Failed (reads clause a (from src ws i) fresh) e
-      names_none z = first_lacks (subst (λ (y : Result Node Refusal). First ws t p n y t₁) z v.by)
+  module _ {t t₁ : List ℕ} {y : Result Node Refusal} (v : FirstName ws t p n y t₁) where
+    pub names_none : {e : Refusal} → y ≡ Err e → (src : Text) (a : ℕ) → Failed (reads clause a (from src ws i) fresh) e
+    names_none z src a = first_lacks src a (subst (λ (y : Result Node Refusal). First ws t p n y t₁) z v.by)
 
-      module _ {m : Node} (z : y ≡ Ok m) where
-        first : First ws t p n (Ok m) t₁
-        first = subst (λ (y : Result Node Refusal). First ws t p n y t₁) z v.by
+    module _ {m : Node} (z : y ≡ Ok m) where
+      first : First ws t p n (Ok m) t₁
+      first = subst (λ (y : Result Node Refusal). First ws t p n y t₁) z v.by
 
-        pub inside_ready : Ready ws (p + 1) n
-        inside_ready = (inside first.0).ready
+      abbrev So : ℕ → ℕ → ℕ → List ℕ → Type 0
+      So e u c tree = (a : ℕ) → Names more_names ws a m.at.0 m.no.0 1 t₁ e u c tree
 
-        pub inside_word : Words name (node_code name_node) (refusal_code expected_identifier) ws t (p + 1) n (Ok m) t₁
-        inside_word = first.1
+      inside_ready : Ready ws (p + 1) n
+      inside_ready = ready_behind (code LParen) (λ u. u) names_past first.0 refl
 
-        pub names_bad : {e : Refusal} → Failed (words name more_names (tok_at src ws i) a (from src ws (p + 1)) behind) e → Failed (reads clause a (from src ws i) fresh) e
-        names_bad f = unlisted (inside first.0) f
+      -- THE NAMES, from the first on
+      pub names_begun : So m.at.0 m.no.0 1 t₁
+      names_begun = list_begun names_law inside_ready first.1 refl
 
-        pub names_met : {k : Nodes} {t₂ : List ℕ} {r : Result Node Refusal} {t₃ : List ℕ} → TookOn (words name more_names (tok_at src ws i) a (from src ws (p + 1)) behind) behind src ws t n k t₂
-            → Closes ws t₂ (code RParen) k.at.0 k.no.0 (clause_kind (kind_at ws i)) 0 i (span_at ws i) k.count r t₃ → Meets (reads clause a (from src ws i) fresh) src ws t n r t₃
-        names_met {k} x c =
+      module _ {e u c : ℕ} {tree : List ℕ} (r : So e u c tree) where
+        -- .. one more behind a comma
+        module _ (x : kind_at ws e ≡ code Comma) {j : ℕ} (f : j ≡ e + 1) where
+          pub names_comma : Ready ws j u
+          names_comma = comma_past names_law inside_ready first.1 refl r x f
+
+          module _ {y' : Result Node Refusal} {tree' : List ℕ} (v' : Named ws tree j u y' tree') where
+            pub names_bad : {k : Refusal} → y' ≡ Err k → (src : Text) (a : ℕ)
+                → Failed (reads clause a (from src ws i) fresh) k
+            names_bad z' src a =
+                unlisted (inside src a {t = t} first.0)
+                (list_bad names_law inside_ready first.1 refl r x f v' z' src (tok_at src ws i) a (behind src))
+
+            module _ {m' : Node} (z' : y' ≡ Ok m') where
+              pub names_on : length tree' ≡ length tree → So m'.at.0 m'.no.0 (c + 1) tree'
+              names_on h = list_on names_law inside_ready first.1 refl r x f v' z' refl h
+
+              pub names_less : e < m'.at.0
+              names_less = list_less names_law inside_ready first.1 refl r x f v' z'
+
+        -- .. and their end
+        pub names_met : (kind_at ws e ≡ code Comma → ⊥) → {k : Result Node Refusal} {t₃ : List ℕ}
+            → Closes ws tree (code RParen) e u (clause_kind (kind_at ws i)) 0 i (span_at ws i) c k t₃
+            → (src : Text) (a : ℕ) → Meets (reads clause a (from src ws i) fresh) src ws t n k t₃
+        names_met o x src a =
+            let l = list_ends names_law inside_ready first.1 refl r
+            {k = record { at = record { 0 = e }; no = record { 0 = u }; count = c }} o refl refl refl
+            src (tok_at src ws i) a (behind src) in
             let N = clause_kind (kind_at ws i) in
-            let s = joined (span_at ws i) (span_at ws k.at.0) in
-            closed_by (span_at ws i) (code RParen) tt (λ u. u) tt (λ i. refl) (listed_in (inside first.0) x)
-            (ap (λ (f : ℕ). single (rec_of N (f + 0) i s.start s.end (count (glue none x.row))) (glue none x.row) s) ((names_opening src ws i a g.inside q w).flagless (fine_at src ws i))
-            ∙ ap (λ (c : ℕ). single (rec_of N 0 i s.start s.end c) (glue none x.row) s) (ap count (glue_none x.row) ∙ sym x.many))
-            c
+            let s = joined (span_at ws i) (span_at ws e) in
+            closed_by (span_at ws i) (code RParen) tt (λ u. u) tt (λ i. refl)
+            (listed_in (inside src a {t = t} first.0) l)
+            (ap (λ (f : ℕ). single (rec_of N (f + 0) i s.start s.end (count (glue none l.row))) (glue none l.row) s)
+            ((names_opening src ws i a g.inside q w).flagless (fine_at src ws i))
+            ∙ ap (λ (c : ℕ). single (rec_of N 0 i s.start s.end c) (glue none l.row) s)
+            (ap count (glue_none l.row) ∙ sym l.many))
+            x
 
 -- AN `AFTER`: its target is a duration or an expression
-module _ (src : Text) (ws : List ℕ) (a : ℕ) {i n p : ℕ} (g : Ready ws i n) (w : kind_at ws i ≡ code After) (q : p ≡ i + 1) where
+pub after_past : {ws : List ℕ} {i n p : ℕ} → p ≡ i + 1 → Ready ws i n × (kind_at ws i ≡ code After) → Ready ws p n
+after_past q b = ready_behind (code After) (λ u. u) b.0 b.1 q
+
+abbrev after_mark : Mark
+after_mark = mark nothing fold apart (start ∷ make (node_code after_node) ∷ [])
+
+module _ (src : Text) (a : ℕ) {ws : List ℕ} {i n p : ℕ} (q : p ≡ i + 1)
+    (b : Ready ws i n × (kind_at ws i ≡ code After)) where
   abbrev held : Row → Reached → ℕ → Acc
   held row s f = record { row = row; reach = s; mine = tok_at src ws i; sum = f }
 
   abbrev waiting : Row → AfterTarget → Acc
   waiting row r = held row (span r.span.start r.span.end) r.flag
 
-  pub after_past : Ready ws p n
-  after_past = ready_behind (code After) (λ u. u) g w q
-
   after_is : fine_at src ws i ≡ after_kind (is_duration src ws p)
-  after_is = after_kind_lem src ws i g.closed g.inside w ∙ ap (λ (j : ℕ). after_kind (is_duration src ws j)) (sym q)
+  after_is =
+      after_kind_lem src ws i b.0.closed b.0.inside b.1
+      ∙ ap (λ (j : ℕ). after_kind (is_duration src ws j)) (sym q)
 
-  after_begun : (b : Bool) → fine_at src ws i ≡ after_kind b
-      → Doing (reads clause a (from src ws i) fresh) src ws (tok_at src ws i) (mark nothing pass replaces (after_steps b) ∷ mark nothing fold apart (start ∷ make (node_code after_node) ∷ []) ∷ []) (sub (target_of b) ∷ sub from_opt ∷ []) a p (leave outs own apart (tok_at src ws i) fresh)
-  after_begun true e = eat_fine (begin src ws i g.inside clause after_duration a fresh (ap (pick (guide clause)) e) refl) tt g.inside (subst (λ (k : ℕ). T (has (fine AfterSpan ∷ []) k)) (sym e) tt) q
-  after_begun false e = eat_fine (begin src ws i g.inside clause after_expr a fresh (ap (pick (guide clause)) e) refl) tt g.inside (subst (λ (k : ℕ). T (has (code After ∷ []) k)) (sym e) tt) q
+  after_begun : (d : Bool) → fine_at src ws i ≡ after_kind d
+      → Doing (reads clause a (from src ws i) fresh) src ws (tok_at src ws i)
+      (mark nothing pass replaces (after_steps d) ∷ after_mark ∷ []) (sub (target_of d) ∷ sub from_opt ∷ [])
+      a p (leave outs own apart (tok_at src ws i) fresh)
+  after_begun true e =
+      eat_fine (begin src ws i b.0.inside clause after_duration a fresh (ap (pick (guide clause)) e) refl)
+      tt b.0.inside (subst (λ (k : ℕ). T (has (fine AfterSpan ∷ []) k)) (sym e) tt) q
+  after_begun false e =
+      eat_fine (begin src ws i b.0.inside clause after_expr a fresh (ap (pick (guide clause)) e) refl)
+      tt b.0.inside (subst (λ (k : ℕ). T (has (code After ∷ []) k)) (sym e) tt) q
 
   pub after_bad : {e : Refusal} → Failed (reads (target_of (is_duration src ws p)) a (from src ws p) fresh) e → Failed (reads clause a (from src ws i) fresh) e
   after_bad f = fails (after_begun (is_duration src ws p) after_is) f
 
-  aimed_by : (b : Bool) → fine_at src ws i ≡ after_kind b → {t : List ℕ} {r : AfterTarget} {t₁ : List ℕ} (k : TookTarget (reads (target_of b) a (from src ws p) fresh) src ws t n (flag_if b) r t₁)
-      → Doing (reads clause a (from src ws i) fresh) src ws (tok_at src ws i) (mark nothing fold apart (start ∷ make (node_code after_node) ∷ []) ∷ []) (sub from_opt ∷ []) a r.at.0 (waiting k.all.acc.row r)
-  aimed_by b e {t} {r} {t₁} k = subst (λ (x : Acc). Doing (reads clause a (from src ws i) fresh) src ws (tok_at src ws i) (mark nothing fold apart (start ∷ make (node_code after_node) ∷ []) ∷ []) (sub from_opt ∷ []) a r.at.0 x) (state b k.flagged) (bring (after_begun b e) (minds b) k.all.gave)
+  aimed_by : (d : Bool) → fine_at src ws i ≡ after_kind d → {t : List ℕ} {r : AfterTarget} {t₁ : List ℕ}
+      (k : TookTarget (reads (target_of d) a (from src ws p) fresh) src ws t n (flag_if d) r t₁)
+      → Doing (reads clause a (from src ws i) fresh) src ws (tok_at src ws i)
+      (after_mark ∷ []) (sub from_opt ∷ []) a r.at.0 (waiting k.all.acc.row r)
+  aimed_by d e {t} {r} {t₁} k =
+      subst (λ (x : Acc). Doing (reads clause a (from src ws i) fresh) src ws (tok_at src ws i)
+      (after_mark ∷ []) (sub from_opt ∷ []) a r.at.0 x)
+      (state d k.flagged) (bring (after_begun d e) (minds d) k.all.gave)
     where
-      minds : (b : Bool) → T (not (targets.minds (target_of b)))
+      minds : (d : Bool) → T (not (targets.minds (target_of d)))
       minds true = tt
       minds false = tt
 
@@ -265,22 +337,26 @@ module _ (src : Text) (ws : List ℕ) (a : ℕ) {i n p : ℕ} (g : Ready ws i n)
           ap (λ (s : Reached). held (glue none k.all.acc.row) (or_else s nil) f) k.reach
           ∙ ap (λ (z : Row). held z (span r.span.start r.span.end) f) (glue_none k.all.acc.row)
 
-      state : (b : Bool) → r.flag ≡ flag_if b → finish outs (tok_at src ws i) (after_steps b) (beside replaces (leave outs own apart (tok_at src ws i) fresh) k.all.acc) ≡ waiting k.all.acc.row r
+      state : (d : Bool) → r.flag ≡ flag_if d
+          → finish outs (tok_at src ws i) (after_steps d)
+          (beside replaces (leave outs own apart (tok_at src ws i) fresh) k.all.acc)
+          ≡ waiting k.all.acc.row r
       state true z = spread (flag_code has_duration) ∙ ap (λ (f : ℕ). held k.all.acc.row (span r.span.start r.span.end) f) (sym z)
       state false z = spread 0 ∙ ap (λ (f : ℕ). held k.all.acc.row (span r.span.start r.span.end) f) (sym z)
 
   module _ {t : List ℕ} {r : AfterTarget} {t₁ : List ℕ} (k : TookTarget (reads (target_of (is_duration src ws p)) a (from src ws p) fresh) src ws t n (flag_if (is_duration src ws p)) r t₁) where
     pub target_ready : Ready ws r.at.0 r.no.0
-    target_ready = all_ready src (target_of (is_duration src ws p)) a after_past k.all
+    target_ready = all_ready src (target_of (is_duration src ws p)) a (after_past q b) k.all
 
     pub target_few : (r.flag ≤ 2) × (r.count + n ≤ r.no.0)
     target_few = (few (is_duration src ws p) k.flagged, all_few k.all)
       where
-        few : (b : Bool) → r.flag ≡ flag_if b → r.flag ≤ 2
+        few : (d : Bool) → r.flag ≡ flag_if d → r.flag ≤ 2
         few true z = omega arith
         few false z = omega arith
 
-    aimed : Doing (reads clause a (from src ws i) fresh) src ws (tok_at src ws i) (mark nothing fold apart (start ∷ make (node_code after_node) ∷ []) ∷ []) (sub from_opt ∷ []) a r.at.0 (waiting k.all.acc.row r)
+    aimed : Doing (reads clause a (from src ws i) fresh) src ws (tok_at src ws i)
+        (after_mark ∷ []) (sub from_opt ∷ []) a r.at.0 (waiting k.all.acc.row r)
     aimed = aimed_by (is_duration src ws p) after_is k
 
     -- the record of an `after` over so many records, with the flag and the span so far
@@ -299,7 +375,7 @@ module _ (src : Text) (ws : List ℕ) (a : ℕ) {i n p : ℕ} (g : Ready ws i n)
 
     module _ (z : kind_at ws r.at.0 ≡ code From) {p' : ℕ} (e : p' ≡ r.at.0 + 1) where
       pub from_past : Ready ws p' r.no.0
-      from_past = ready_past target_ready (past_as (code From) (λ u. u) g.closed k.all.inside z) e
+      from_past = ready_past target_ready (past_as (code From) (λ u. u) b.0.closed k.all.inside z) e
 
       sourced : Doing (reads from_opt a (from src ws r.at.0) (waiting k.all.acc.row r)) src ws (tok_at src ws r.at.0) (mark nothing pass replaces (plus (flag_code has_from) ∷ []) ∷ []) (sub expr ∷ []) a p' (waiting k.all.acc.row r)
       sourced = eat (begin src ws r.at.0 k.all.inside from_opt from_expr a (waiting k.all.acc.row r) (picks (code From ∷ []) from_expr [] (use' no_from) tt src ws r.at.0 (is_one (code From) z)) refl) tt k.all.inside (is_one (code From) z) e
@@ -376,6 +452,13 @@ value_took {m = m} k = record { all = record { acc = single k.top k.below m.span
 -- .. as the code told it
 pub target_is : {src : Text} {ws : List ℕ} {i n a : ℕ} {t : List ℕ} {r : Result AfterTarget Refusal} {t' : List ℕ} {b : Bool} (c : Bool) → b ≡ is_duration src ws i → b ≡ c → AnswersTarget c src ws i n a t r t' → Targets src ws i n a t r t'
 target_is {src} {ws} {i} {n} {a} {t} {r} {t'} c e f x = record { by = subst (λ (b : Bool). AnswersTarget b src ws i n a t r t') (sym f ∙ e) x }
+
+pub target_bad : {src : Text} {ws : List ℕ} {i n a : ℕ} {t : List ℕ} {r : Result AfterTarget Refusal} {t' : List ℕ}
+    {b : Bool}
+    → b ≡ is_duration src ws i → b ≡ false → {e : Refusal} → IsErrAnd r (λ y. y ≡ e)
+    → Failed (reads expr a (from src ws i) fresh) e → Targets src ws i n a t r t'
+target_bad {src} {ws} {i} {n} {a} {t} {t' = t'} e f h x =
+    subst (λ (r : Result AfterTarget Refusal). Targets src ws i n a t r t') (sym (handed h)) (target_is false e f x)
 
 pub target_true : (src : Text) (ws : List ℕ) (i : ℕ) {b : Bool} → b ≡ is_duration src ws i → b ≡ true
     → T (is_duration src ws i)

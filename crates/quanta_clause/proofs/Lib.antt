@@ -1,3 +1,4 @@
+pub mod Bytes
 pub mod Units
 pub mod Clauses
 pub mod Turns

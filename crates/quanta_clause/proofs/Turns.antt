@@ -1,6 +1,6 @@
 -- The list of clauses: what its next token tells, and one turn of its loop.
 -- Assumes nothing.
-use Rattle.std.specs.Prelude.{Result}
+use Rattle.std.specs.Prelude.{IsErrAnd, Ok, Result}
 use mathlib.Core.Path.{◌≡◌, refl, sym, subst}
 use mathlib.Core.Bool.{Bool, true, false}
 use mathlib.Core.List.{List}
@@ -18,14 +18,16 @@ use Rattle.quanta_grammar.specs.Reading.{reads}
 use Rattle.quanta_grammar.specs.Refine.{Text}
 use Rattle.quanta_cursor.specs.declared.parser.TokenPos.{TokenPos}
 use Rattle.quanta_cursor.specs.declared.parser.RecordNo.{RecordNo}
-use Rattle.quanta_cursor.specs.Tokens.{kind_at, from, fine_at}
-use Rattle.quanta_cursor.specs.Answers.{TookAll, Meets}
+use Rattle.quanta_cursor.specs.Tokens.{kind_at, from, fine_at, Ready}
+use Rattle.quanta_cursor.specs.Answers.{Failed, Took, Meets, Lists}
 use Rattle.quanta_cursor.proofs.Sets.{fine_in, fine_out, is_in, not_in}
 use Rattle.quanta_cursor.proofs.Lists.{roll_in, run_stop, rolled, clauses_run}
-use Rattle.quanta_cursor.proofs.Listing.{Rolling}
+use Rattle.quanta_cursor.proofs.Listing.{Rolling, runs_bad}
+use Rattle.quanta_cursor.proofs.Meeting.{took_of, took_all, fails_all}
 use Rattle.quanta_clause.specs.Clauses.{of_names, of_name, of_expr}
 use Rattle.quanta_clause.proofs.Clauses.{has_two, has_three}
 use Rattle.quanta_cursor.specs.declared.parser.Node.{Node}
+use Rattle.quanta_cursor.specs.declared.parser.Nodes.{Nodes}
 use Rattle.quanta_cursor.specs.declared.parser.Refusal.{Refusal}
 
 -- WHAT THE NEXT TOKEN TELLS, by the numbers that the code compared
@@ -64,7 +66,8 @@ module _ (src : Text) (ws : List ℕ) (i : ℕ) where
   pub after_start : kind_at ws i ≡ code After → T (has clause_start (fine_at src ws i))
   after_start e = starts (is_in clause_start (code After) refl e tt)
 
-  pub no_start : {j : ℕ} → j ≡ kind_at ws i → kind_at ws i ≤ code Eof → (j ≡ code After → ⊥) → ((c : ℕ) → code Mints ≤ c → c ≤ code Denies → j ≡ c → ⊥) → T (has clause_start (fine_at src ws i)) → ⊥
+  no_start : {j : ℕ} → j ≡ kind_at ws i → kind_at ws i ≤ code Eof → (j ≡ code After → ⊥)
+      → ((c : ℕ) → code Mints ≤ c → c ≤ code Denies → j ≡ c → ⊥) → T (has clause_start (fine_at src ws i)) → ⊥
   no_start e h n m =
       fine_out clause_start tt src ws i (not_in clause_start e h (
         m (code Writes) (omega arith) (omega arith),
@@ -80,19 +83,34 @@ module _ (src : Text) (ws : List ℕ) (i : ℕ) where
         ),
       ))
 
--- ONE TURN: the clause at i was read, and its answer is r
-pub record Turn (src : Text) (ws : List ℕ) (a i n : ℕ) (t : List ℕ) (r : Result Node Refusal) (t' : List ℕ) : Type 0 where
+-- ONE TURN: the clause at i was read, and it is m
+pub record Turn (src : Text) (ws : List ℕ) (a i n : ℕ) (t : List ℕ) (m : Node) (t' : List ℕ) : Type 0 where
   pub goes : T (has clause_start (fine_at src ws i))
-  pub met : Meets (reads clause a (from src ws i) fresh) src ws t n r t'
+  pub took : Took (reads clause a (from src ws i) fresh) src ws t n m t'
   pub long : length t' ≡ length t
 
-pub turned : {src : Text} {ws : List ℕ} {a i n : ℕ} {t : List ℕ} {r r' : Result Node Refusal} {t' t'' : List ℕ} → T (has clause_start (fine_at src ws i)) → r' ≡ r → t'' ≡ t' → Meets (reads clause a (from src ws i) fresh) src ws t n r t' → length t' ≡ length t → Turn src ws a i n t r' t''
-turned {src} {ws} {a} {i} {n} {t} {r} {r'} {t'} {t''} g e f m l =
-    subst (λ (r : Result Node Refusal). Turn src ws a i n t r t'') (sym e) (subst (λ (t' : List ℕ). Turn src ws a i n t r t') (sym f) (record { goes = g; met = m; long = l }))
+pub turned : {src : Text} {ws : List ℕ} {a i n : ℕ} {t : List ℕ} {r : Result Node Refusal}
+    {m m' : Node} {t' t'' : List ℕ}
+    → T (has clause_start (fine_at src ws i)) → m' ≡ m → t'' ≡ t' → r ≡ Ok m
+    → Meets (reads clause a (from src ws i) fresh) src ws t n r t' → length t' ≡ length t
+    → Turn src ws a i n t m' t''
+turned {src} {ws} {a} {i} {n} {t} {m' = m'} {t'} g e f z v l =
+    subst (λ (t' : List ℕ). Turn src ws a i n t m' t') (sym f)
+    (subst (λ (m : Node). Turn src ws a i n t m t') (sym e) (record { goes = g; took = took_of z v; long = l }))
+
+-- .. or it was refused
+pub refused : {src : Text} {ws : List ℕ} {a i n p q c : ℕ} {t tree t' : List ℕ} {r : Result Nodes Refusal} {u : Refusal}
+    → IsErrAnd r (λ y. y ≡ u) → Ready ws i n → Rolling clauses src ws a i n 0 t p q c tree
+    → T (has clause_start (fine_at src ws p)) → Failed (reads clause a (from src ws p) fresh) u
+    → Lists src clauses ws i n a t r t'
+refused {a = a} h g v s f = fails_all h (runs_bad clauses_run a g v s fresh f)
 
 -- THE END of the list
-pub clauses_end : {src : Text} {ws : List ℕ} {a i n : ℕ} {t : List ℕ} {p : TokenPos} {q : RecordNo} {c : ℕ} {tree : List ℕ} → Rolling clauses src ws a i n 0 t p.0 q.0 c tree → (T (has clause_start (fine_at src ws p.0)) → ⊥)
-    → TookAll (reads clauses a (from src ws i) fresh) src ws t n (record { at = p; no = q; count = c }) tree
-clauses_end {src} {ws} {a} {i} {n} {t} v z =
+pub clauses_end : {src : Text} {ws : List ℕ} {a i n : ℕ} {t : List ℕ} {p : TokenPos} {q : RecordNo} {c : ℕ}
+    {tree : List ℕ} → Ready ws i n → Rolling clauses src ws a i n 0 t p.0 q.0 c tree → {j : ℕ} → j ≡ kind_at ws p.0
+    → (j ≡ code After → ⊥) → ((k : ℕ) → code Mints ≤ k → k ≤ code Denies → j ≡ k → ⊥)
+    → Lists src clauses ws i n a t (Ok (record { at = p; no = q; count = c })) tree
+clauses_end {src} {ws} {a} {i} {n} {t} {p} b v e o m =
+    let none = no_start src ws p.0 e (b.closed.known p.0 v.ready.inside).1 o m in
     let g = v.carries (reads clauses a (from src ws i) fresh) t n fresh (roll_in fresh refl) in
-    rolled g (run_stop g clauses_run v.ready.inside z) v.ready.inside
+    took_all (rolled g (run_stop g clauses_run v.ready.inside none) v.ready.inside)

@@ -4,7 +4,6 @@ use mathlib.Core.Path.{◌≡◌, refl, ap, sym, subst, ◌∙◌}
 use mathlib.Core.Bool.{Bool, true, false, ◌&&◌, ◌||◌}
 use mathlib.Core.List.{List, [], ◌∷◌}
 use Prim.Native.Nat.{ℕ, suc, ◌+◌, ◌-◌, ◌<◌, ◌≤◌}
-use Prim.Native.String.{String}
 use native.Mathlib.Numerals.{add-one}
 use native.Mathlib.Omega.{arith}
 use lib.Dec.{T, eqb, eqb→eq, ltb}
@@ -25,29 +24,9 @@ use Rattle.quanta_cursor.proofs.Places.{run_none, plain_at_lem, past_as}
 use Rattle.quanta_type.proofs.Words.{text_kind_lem, text_is}
 use Rattle.quanta_clause.specs.Units.{is_unit, is_duration}
 
--- A WORD that is compared with one text after the other: b so far, and b' with one text more
-or_or : (a b c : Bool) → (a || b) || c ≡ a || (b || c)
-or_or true b c = refl
-or_or false b c = refl
-
 or_no : (a : Bool) → a || false ≡ a
 or_no true = refl
 or_no false = refl
-
-pub hit : {b b' : Bool} (x : Bool) → b ≡ true → b' ≡ b → b' ≡ b || x
-hit x e f = f ∙ e ∙ ap (λ (b : Bool). b || x) (sym e)
-
-pub miss : {b b' r : Bool} (x : Bool) → b ≡ false → r ≡ x → b' ≡ r → b' ≡ b || x
-miss x e f g = g ∙ f ∙ ap (λ (b : Bool). b || x) (sym e)
-
-pub tried : (w : List ℕ) (t : String) (ts : List String) (b : Bool) {b' v : Bool} → b' ≡ b || same w (bytes t) → b || spells (t ∷ ts) w ≡ v → b' || spells ts w ≡ v
-tried w t ts b e f = ap (λ (b : Bool). b || spells ts w) e ∙ or_or b (same w (bytes t)) (spells ts w) ∙ f
-
-pub spelled : {b r v : Bool} (x : Bool) → b ≡ true → r ≡ b → b || x ≡ v → r ≡ v
-spelled x e f g = f ∙ e ∙ ap (λ (b : Bool). b || x) (sym e) ∙ g
-
-pub spelled_last : {b r v : Bool} (x : Bool) → b ≡ false → r ≡ x → b || (x || false) ≡ v → r ≡ v
-spelled_last x e f g = f ∙ sym (or_no x) ∙ ap (λ (b : Bool). b || (x || false)) (sym e) ∙ g
 
 -- A UNIT does not spell `of`
 and_true : (a b : Bool) → a && b ≡ true → (a ≡ true) × (b ≡ true)

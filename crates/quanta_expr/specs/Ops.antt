@@ -3,7 +3,8 @@
 use Rattle.std.specs.Prelude.{◌≡◌, ℕ, T, List}
 use Rattle.grammar.specs.Grammar.{has}
 use Rattle.grammar.specs.Records.{leaf_kind, flag_of}
-use Rattle.quanta_grammar.specs.NodeKind.{NodeKind, node_code, unary_node, binary_node}
+use Rattle.quanta_token.specs.TokenKind.{code, Checked, Wrapping}
+use Rattle.quanta_grammar.specs.NodeKind.{NodeKind, node_code, unary_node, binary_node, checked_node, wrapping_node}
 use Rattle.quanta_grammar.specs.Productions.{Level, operators, prefixes, literal, outs}
 
 -- the answer where a kind is not in the table
@@ -28,3 +29,8 @@ Prefix = Flagged prefixes unary_node
 pub record Leaf (k r : ℕ) : Type 0 where
   pub some : (r ≡ no_node → ⊥) → T (has literal k) × (r ≡ leaf_kind outs.leafs k)
   pub none : r ≡ no_node → T (has literal k) → ⊥
+
+-- r is the kind of the record that an expression under the keyword k leaves
+pub record Wrapper (k r : ℕ) : Type 0 where
+  pub checked : k ≡ code Checked → r ≡ node_code checked_node
+  pub wrapping : k ≡ code Wrapping → r ≡ node_code wrapping_node

@@ -6,7 +6,7 @@
 ghost use Rattle.std.specs.Prelude.{◌≤◌};
 ghost use Rattle.quanta_token.specs.TokenKind.{code, Eof};
 ghost use Rattle.quanta_grammar.specs.Productions.{equality, comparison, additive, multiplicative};
-ghost use Rattle.quanta_expr.specs.Ops.{Operator, Prefix, Leaf};
+ghost use Rattle.quanta_expr.specs.Ops.{Operator, Prefix, Leaf, Wrapper};
 
 use quanta_cursor::node;
 use quanta_token::token;
@@ -117,5 +117,16 @@ pub fn leaf_kind(kind: u32) -> u32
         token::NATIVE => node::NATIVE,
         token::NOW => node::NOW,
         _ => NO_NODE,
+    }
+}
+
+// The record of an expression under `checked` or `wrapping`.
+pub fn wrap_kind(kind: u32) -> u32
+    ensures { Wrapper kind result }
+{
+    if kind == token::CHECKED {
+        node::CHECKED
+    } else {
+        node::WRAPPING
     }
 }

@@ -1,5 +1,4 @@
 pub mod AnswerLaws
-pub mod DayLaws
 pub mod PromiseLaws
 pub mod Readings
 pub mod ScanLaws

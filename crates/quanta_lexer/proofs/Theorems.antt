@@ -53,7 +53,8 @@ module _ (ed : Edition) (s t : List ℕ) (words : ℕ) where
   pub short_small : (n : ℕ) → tokenizing ed s t words ≡ Err (Short n) → n ≤ source_limit + 1
   short_small n h = let p = (short n h).0 in omega (arith, p.few, p.limited)
 
-  pub refusals_small : (k a e : ℕ) → tokenizing ed s t words ≡ Err (Refused (refusal k a e)) → (a ≤ source_limit) × (e ≤ source_limit)
+  pub refusals_small :
+      (k a e : ℕ) → tokenizing ed s t words ≡ Err (Refused (refusal k a e)) → (a ≤ source_limit) × (e ≤ source_limit)
   refusals_small k a e h = lies_small (refusals_lie k a e h)
 
   -- records at the front, zeros behind
@@ -66,17 +67,23 @@ module _ (ed : Edition) (s t : List ℕ) (words : ℕ) where
 
   -- after 1 to 10 and 28 all zero
   pub zeros_after_refusal :
-      (k a e : ℕ) → tokenizing ed s t words ≡ Err (Refused (refusal k a e)) → token_words ed s t words ≡ replicate words 0
+      (k a e : ℕ) →
+      tokenizing ed s t words ≡ Err (Refused (refusal k a e)) →
+      token_words ed s t words ≡ replicate words 0
   unfolding token_words
   zeros_after_refusal k a e h = rw h
 
   -- 1 to 10 and 28 come before 11: they are the same in any room
   pub refused_in_any_room :
-      (k a e : ℕ) → tokenizing ed s t words ≡ Err (Refused (refusal k a e)) → (w : ℕ) → tokenizing ed s t w ≡ Err (Refused (refusal k a e))
+      (k a e : ℕ) →
+      tokenizing ed s t words ≡ Err (Refused (refusal k a e)) →
+      (w : ℕ) →
+      tokenizing ed s t w ≡ Err (Refused (refusal k a e))
   refused_in_any_room k a e h w = any_room ed s t words w h
 
   -- after 11 all zero
-  pub zeros_after_short : (n : ℕ) → tokenizing ed s t words ≡ Err (Short n) → token_words ed s t words ≡ replicate words 0
+  pub zeros_after_short :
+      (n : ℕ) → tokenizing ed s t words ≡ Err (Short n) → token_words ed s t words ≡ replicate words 0
   unfolding token_words
   zeros_after_short n h = rw h
 

@@ -14,7 +14,8 @@ use Rattle.std.specs.Prelude.{Option, Some, None, Result, Ok, Err}
 use Rattle.quanta_source.specs.Source.{bare_at, barred_at, check_from, checked}
 use Rattle.quanta_source.specs.declared.source.Fault.{Fault}
 use Rattle.quanta_source.specs.declared.source.Fault.TheVariants.{CarriageReturn, Barred}
-use Rattle.quanta_lexer.specs.Tokens.{Tok, Ending, done, refused, Lexing, records, put, Read, read_for, read_of, lex_all}
+use Rattle.quanta_lexer.specs.Tokens.{Tok, Ending, done, refused, Lexing, records, put}
+use Rattle.quanta_lexer.specs.Tokens.{Read, read_for, read_of, lex_all}
 use Rattle.quanta_lexer.specs.Refusals.{refusal, bad_table, table_limit}
 use Rattle.quanta_lexer.specs.Tokenizing.{reading, or_else, Written, tokenizing, token_words}
 use Rattle.quanta_lexer.proofs.TokensLaws.{length_put}
@@ -75,7 +76,8 @@ unfolding checked
 checked_within s = fault_within (length s) s 0
 
 pub return_place : (s : List ℕ) (k : ℕ) → checked s ≡ Err (CarriageReturn k) → k < length s
-return_place s k h = let w : FaultWithin (length s + 0) (Err (CarriageReturn k)) = rw h at (checked_within s) in omega arith
+return_place s k h =
+    let w : FaultWithin (length s + 0) (Err (CarriageReturn k)) = rw h at (checked_within s) in omega arith
 
 pub barred_place : (s : List ℕ) (k : ℕ) → checked s ≡ Err (Barred k) → k < length s
 barred_place s k h = let w : FaultWithin (length s + 0) (Err (Barred k)) = rw h at (checked_within s) in omega arith

@@ -1,6 +1,7 @@
 -- The whole reading of bytes into tokens: the refusals 1 to 11 and 28 in order of test, and every word of the token
 -- buffer.
-use Rattle.std.specs.Prelude.{ℕ, ◌+◌, ◌-◌, ◌*◌, ◌/◌, Bool, true, false, List, ◌++◌, ◌≡◌, length, replicate, ltb, Option, Some, None, Result, Ok, Err}
+use Rattle.std.specs.Prelude.{ℕ, ◌+◌, ◌-◌, ◌*◌, ◌/◌, Bool, true, false, List, ◌++◌, ◌≡◌, length, replicate, ltb}
+use Rattle.std.specs.Prelude.{Option, Some, None, Result, Ok, Err}
 use Rattle.quanta_token.specs.declared.edition.Edition.{Edition}
 use Rattle.utf8.specs.Utf8.{first_bad}
 use Rattle.quanta_source.specs.Source.{checked}

@@ -1,5 +1,6 @@
 -- A source as its tokens, and tokens as records in a buffer.
-use Rattle.std.specs.Prelude.{ℕ, zero, suc, ◌+◌, ◌*◌, cond, List, [], ◌∷◌, ◌≡◌, length, set, leb, Some, None, Result, Ok, Err}
+use Rattle.std.specs.Prelude.{ℕ, zero, suc, ◌+◌, ◌*◌, cond, List, [], ◌∷◌, ◌≡◌, length, set, leb}
+use Rattle.std.specs.Prelude.{Some, None, Result, Ok, Err}
 use Rattle.quanta_token.specs.declared.edition.Edition.{Edition}
 use Rattle.quanta_token.specs.Token.{Token as TokenOf}
 use Rattle.quanta_token.specs.TokenKind.{code, Eof}

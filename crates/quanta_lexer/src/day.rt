@@ -7,45 +7,31 @@ ghost use Rattle.quanta_lexer.specs.Days.{leap_year, month_days, digit_at, two_a
 
 use quanta_token::bytes::peek;
 
+#[tactic(auto, unfolding(crate::specs::Days::leap_year))]
 fn is_leap(year: u32) -> bool
     ensures { result ≡ leap_year year }
 {
     ((year % 4 == 0) & (year % 100 != 0)) | (year % 400 == 0)
 }
 
-// The days of the months 1 to 12, if the year is no leap year; no month has the number 0.
-const MONTHS: [u32; 13] = [0, 31, 28, 31, 30, 31, 30, 31, 31, 30, 31, 30, 31];
-
-const FEBRUARY: u32 = 2;
-
-const DECEMBER: u32 = 12;
-
 // The days of a month, and 0 where the number is no month's.
+#[tactic(auto, unfolding(crate::specs::Days::month_days))]
 fn month_days(year: u32, month: u32) -> u32
     ensures { result ≡ month_days year month }
 {
-    if DECEMBER < month {
-        return 0;
+    match month {
+        1 | 3 | 5 | 7 | 8 | 10 | 12 => 31,
+        4 | 6 | 9 | 11 => 30,
+        2 => if is_leap(year) { 29 } else { 28 },
+        _ => 0,
     }
-    if (month == FEBRUARY) & is_leap(year) {
-        return 29;
-    }
-    let place = month as usize;
-    MONTHS[place]
-}
-
-fn wide(b: u8) -> u32
-    ensures { (result ≡ b) × (result < 256) }
-{
-    b as u32
 }
 
 // The number that the digit at i writes.
 fn digit_at(src: &[u8], i: usize) -> u32
     ensures { (result ≡ digit_at src.now i) × (result < 256) }
 {
-    let c = peek(src, i);
-    if c < b'0' { 0 } else { wide(c - b'0') }
+    u32::from(peek(src, i).saturating_sub(b'0'))
 }
 
 // The number that the two digits at i write.
@@ -65,10 +51,11 @@ fn four_at(src: &[u8], i: usize) -> u32
 }
 
 // Whether the date shape at i is a day.
+#[tactic(auto, unfolding(crate::specs::Days::day_at))]
 pub fn is_day(src: &[u8], i: usize) -> bool
     requires { i + 10 ≤ length src.now }
     ensures { result ≡ day_at src.now i }
 {
     let day = two_at(src, i + 8);
-    (1 <= day) & (day <= month_days(four_at(src, i), two_at(src, i + 5)))
+    (1..=month_days(four_at(src, i), two_at(src, i + 5))).contains(&day)
 }

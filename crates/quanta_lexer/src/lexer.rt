@@ -3,7 +3,6 @@
 
 // The whole reading of bytes into token records.
 ghost use Rattle.std.specs.Prelude.{◌≡◌, ◌≤◌, ◌<◌, ◌^◌, length};
-ghost use Rattle.quanta_words.specs.Lookup.{Prepared};
 ghost use Rattle.quanta_lexer.specs.Refusals.{source_limit, refusal};
 ghost use Rattle.quanta_lexer.specs.Tokens.{tok, store, lex_all, Ran};
 ghost use Rattle.quanta_lexer.specs.Tokenizing.{reading, Written, tokenizing, token_words};
@@ -12,7 +11,7 @@ use crate::refusal::{
     BAD_TABLE, BARE_RETURN, BARRED_CHARACTER, Failure, LONG_SOURCE, NOT_UTF8, Refusal,
     SOURCE_LIMIT, TABLE_LIMIT,
 };
-use crate::scan::{BytePos, Token, next_token, skip_trivia};
+use crate::scan::{BytePos, Lexer, Token};
 use quanta_source::source::{Fault, check_source};
 use quanta_token::bytes::ByteChart;
 use quanta_token::edition::Edition;
@@ -29,6 +28,7 @@ fn refused(number: u32, start: usize, end: usize) -> Result<usize, Refusal>
 }
 
 // Writes a token's record after n others, if it has room.
+#[tactic(auto, using(crate::proofs::TokensLaws::store_room, crate::proofs::TokensLaws::store_full))]
 fn write_token(tokens: &mut [u32], n: usize, token: Token)
     requires { (n < 2 ^ 32) × (token.start.0 < 2 ^ 32) × (token.end.0 < 2 ^ 32) }
     ensures { tokens.new ≡ store n (tok token.kind token.start.0 token.end.0) tokens.old }
@@ -41,38 +41,32 @@ fn write_token(tokens: &mut [u32], n: usize, token: Token)
     }
 }
 
-// The tokens of a source, their records written as far as there is room; or the first failing token.
-fn run(
-    edition: Edition,
-    chart: &ByteChart,
-    src: &[u8],
-    words: &[u8],
-    seen: &[u8; 1280],
-    index: &[u16],
-    tokens: &mut [u32],
-) -> Result<usize, Refusal>
-    requires { (length src.now ≤ source_limit) × Prepared words.now seen.now index.now }
-    ensures { Ran edition src.now words.now tokens.old tokens.new result }
-{
-    let mut n: usize = 0;
-    let mut i = BytePos(0);
-    loop {
-        let here = skip_trivia(chart, src, i);
-        match next_token(edition, chart, src, words, seen, index, here)? {
-            Some(token) => {
-                write_token(tokens, n, token);
-                n += 1;
-                i = token.end;
-            }
-            None => {
-                let eof = Token {
-                    kind: EOF,
-                    start: here,
-                    end: here,
-                };
-                write_token(tokens, n, eof);
-                let count = n + 1;
-                return Ok(count);
+impl Lexer<'_> {
+    // The tokens of the source, their records written as far as there is room; or the first failing token.
+    fn run(&self, tokens: &mut [u32]) -> Result<usize, Refusal>
+        requires { length self.now.src.now ≤ source_limit }
+        ensures { Ran self.now.edition self.now.src.now self.now.words.now tokens.old tokens.new result }
+    {
+        let mut n: usize = 0;
+        let mut i = BytePos(0);
+        loop {
+            let here = self.skip_trivia(i);
+            match self.next_token(here)? {
+                Some(token) => {
+                    write_token(tokens, n, token);
+                    n += 1;
+                    i = token.end;
+                }
+                None => {
+                    let eof = Token {
+                        kind: EOF,
+                        start: here,
+                        end: here,
+                    };
+                    write_token(tokens, n, eof);
+                    let count = n + 1;
+                    return Ok(count);
+                }
             }
         }
     }
@@ -99,15 +93,17 @@ fn run_indexed(
     ensures { Ran edition src.now words.now tokens.old tokens.new result }
 {
     let n = index_words(words, index);
-    run(
+    let chart = ByteChart::new();
+    let seen = sift(words);
+    let lexer = Lexer {
         edition,
-        &ByteChart::new(),
         src,
+        chart: &chart,
         words,
-        &sift(words),
-        &index[..n],
-        tokens,
-    )
+        seen: &seen,
+        index: &index[..n],
+    };
+    lexer.run(tokens)
 }
 
 // The tokens under a long table. The compiler keeps a function that calls itself out of its callers, so that the long

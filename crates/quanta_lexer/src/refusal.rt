@@ -1,5 +1,5 @@
-// The numbers of the refusals that the lexer gives, and its two limits. They are document 01's, as all refusals are: the
-// parser's stand between 11 and 28.
+// The numbers of the refusals that the lexer gives, as document 01 and the C interface have them, and its two limits.
+// They are no enum, since the parser's refusals 12 to 27 go on with them.
 pub const BAD_TABLE: u32 = 1;
 
 pub const LONG_SOURCE: u32 = 2;

@@ -1,5 +1,6 @@
 -- Edition 1 reads as before there were editions.
 -- Assumes nothing.
+use Rattle.std.specs.Prelude.{Ok, Err}
 use mathlib.Core.Path.{◌≡◌, refl, ap, sym, subst, ◌∙◌}
 use mathlib.Core.List.{List, [], append-nil}
 use mathlib.Core.Logic.{◌↔◌}
@@ -11,8 +12,8 @@ use Rattle.grammar.proofs.Halves.{spells_self, spells_single}
 use Rattle.quanta_token.specs.declared.edition.Edition.TheVariants.{One}
 use Rattle.quanta_lexer.specs.Tokens.{Tok, lex_all}
 use Rattle.quanta_lexer.specs.Tokenizing.{tokenizing, token_words}
-use Rattle.quanta_lexer.specs.declared.lexer.Answer.{Answer as OfBytes}
-use Rattle.quanta_lexer.specs.declared.lexer.Answer.TheVariants as lexer
+use Rattle.quanta_lexer.specs.Tokenizing.{Answer as OfBytes}
+use Rattle.quanta_lexer.specs.declared.refusal.Failure.TheVariants.{Refused, Short}
 use Rattle.quanta_lexer.proofs.PromiseLaws.{in_order}
 use Rattle.quanta_lexer.proofs.Theorems.{accepted}
 use Rattle.quanta_grammar.specs.Productions.{Symbol, grammar, Derivation}
@@ -20,8 +21,7 @@ use Rattle.quanta_grammar.specs.Refine.{Answer as OfTokens, text, kinds, answer}
 use Rattle.quanta_grammar.specs.Before.{refine_before}
 use Rattle.quanta_grammar.proofs.Theorems.{edition_one_tokens, edition_one_answers}
 use Rattle.quanta_grammar.proofs.Refined.{single_text}
-use Rattle.quanta_reading.specs.declared.answer.Answer.{Answer}
-use Rattle.quanta_reading.specs.Reading.{Reading, parsed, lexed, records_of, tree_words, answering, reading, Conforms}
+use Rattle.quanta_reading.specs.Reading.{Answer, Reading, parsed, lexed, records_of, tree_words, answering, reading, Conforms}
 use Rattle.quanta_reading.specs.Before.{grammar_before, reading_before, ConformsBefore}
 use Rattle.quanta_reading.specs.Demand3.{Valid, Spelled}
 use Rattle.quanta_reading.proofs.Editions.{in_range}
@@ -38,11 +38,11 @@ module _ (s : Symbol) (source table : List ℕ) (tokens tree : ℕ) where
 
   by : (x : OfBytes) → tokenizing One source table tokens ≡ x
       → made x (answer s (text One source) toks) ≡ made x (grammar_before s source table)
-  by (lexer.Accepted n) e =
+  by (Ok n) e =
       let p = (accepted One source table tokens n e).0.ordered in
-      ap (made (lexer.Accepted n)) (edition_one_answers s source toks (in_range (length source) 0 toks p))
-  by (lexer.Refused k a b) e = refl
-  by (lexer.Short n) e = refl
+      ap (made (Ok n)) (edition_one_answers s source toks (in_range (length source) 0 toks p))
+  by (Err (Refused r)) e = refl
+  by (Err (Short n)) e = refl
 
   pub before : reading One s source table tokens tree ≡ reading_before s source table tokens tree
   unfolding reading answering reading_before

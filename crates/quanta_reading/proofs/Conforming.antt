@@ -15,25 +15,33 @@ use Rattle.grammar.specs.Fused.{Outcome}
 use Rattle.quanta_lexer.specs.Refusals.{source_limit}
 use Rattle.quanta_lexer.specs.Tokens.{Tok, records, lex_all}
 use Rattle.quanta_lexer.specs.Tokenizing.{tokenizing, token_words}
-use Rattle.quanta_lexer.specs.declared.lexer.Answer.{Answer as OfBytes}
-use Rattle.quanta_lexer.specs.declared.lexer.Answer.TheVariants as lexer
+use Rattle.quanta_lexer.specs.Tokenizing.{Answer as OfBytes}
+use Rattle.quanta_lexer.specs.declared.refusal.Failure.{Failure as NoTokens}
 use Rattle.quanta_lexer.proofs.Theorems.{accepted, accepted_small}
 use Rattle.quanta_grammar.specs.Productions.{Symbol, Derivation}
-use Rattle.quanta_grammar.specs.Reading.{allowance, reads}
+use Rattle.quanta_grammar.specs.Reading.{allowance, reads, Call as IsCall, program, item, stmt, expr, type}
 use Rattle.quanta_grammar.specs.Refine.{Text, text, Answer as OfTokens, accept, reject, answer_of, answer, refine}
 use Rattle.quanta_grammar.proofs.Steps.{comes, fails}
 use Rattle.quanta_cursor.specs.declared.parser.Refusal.{Refusal}
 use Rattle.quanta_cursor.specs.Tokens.{from, Ready}
 use Rattle.quanta_cursor.specs.Tree.{lay}
 use Rattle.quanta_cursor.specs.Answers.{Failed}
-use Rattle.quanta_parser.specs.Whole.{TookWhole, AnswersWhole, ReadsWhole}
-use Rattle.quanta_reading.specs.declared.answer.Answer.{Answer}
-use Rattle.quanta_reading.specs.declared.answer.Answer.TheVariants.{Lexical, NoTokenRoom}
-use Rattle.quanta_reading.specs.Reading.{in_room, parsed, lexed, records_of, tree_words, answering, reading, Conforms}
+use Rattle.quanta_parser.specs.declared.whole.Call.{Call}
+use Rattle.quanta_parser.specs.declared.whole.Call.TheVariants.{Program, Item, Stmt, Expr, «Type»}
+use Rattle.quanta_parser.specs.Whole.{symbol_of, TookWhole, AnswersWhole, ReadsWhole}
+use Rattle.quanta_reading.specs.Reading.{Answer, failure_of, in_room, parsed, lexed, records_of, tree_words, answering, reading, Conforms}
 use Rattle.quanta_reading.specs.Finish.{ended, kept}
 use Rattle.quanta_reading.proofs.TokenWords.{length_records, from_all, ready, fronts}
 use Rattle.quanta_reading.proofs.Laying.{kept_is}
 use Rattle.quanta_cursor.specs.declared.parser.Node.{Node}
+
+-- what a call reads is one of the calls of document 01
+pub call_of : (c : Call) → IsCall (symbol_of c)
+call_of Program = program
+call_of Item = item
+call_of Stmt = stmt
+call_of Expr = expr
+call_of «Type» = type
 
 -- WHAT A WHOLE READING ANSWERS is what the grammar answers: its records ..
 pub record Rows (s : Symbol) (src : Text) (ts : List Tok) (t : List ℕ) (n : ℕ) (t' : List ℕ) : Type 0 where
@@ -75,17 +83,14 @@ module _ (ed : Edition) (s : Symbol) (source table : List ℕ) (words : ℕ) whe
   answering_as tree x e = ap (λ (x : OfBytes). lexed x (λ n. parsed (tree / 6) n (answer s (text ed source) toks))) e
 
   -- 1 to 10 and 28, and 11
-  pub lexical : (tree : ℕ) {x : OfBytes} {k a e : ℕ} {r : Answer} {tokens' tree' : List ℕ} → x ≡ tokenizing ed source table words → x ≡ lexer.Refused k a e → r ≡ Lexical k a e
-      → tokens' ≡ token_words ed source table words → tree' ≡ replicate tree 0 → Conforms ed s source table words tree r tokens' tree'
-  lexical tree {k = k} {a} {e} z x i p q =
-      conforms tree (i ∙ answering_as tree (lexer.Refused k a e) (sym x ∙ z)) p (q ∙ ap (λ (r : Answer). tree_words tree (records_of (answer s (text ed source) toks)) r) (sym i))
+  pub lexical : (tree : ℕ) {x : OfBytes} {f : NoTokens} {r : Answer} {tokens' tree' : List ℕ} → x ≡ tokenizing ed source table words → x ≡ Err f
+      → r ≡ Err (failure_of f) → tokens' ≡ token_words ed source table words → tree' ≡ replicate tree 0
+      → Conforms ed s source table words tree r tokens' tree'
+  lexical tree {f = f} z x i p q =
+      conforms tree (i ∙ answering_as tree (Err f) (sym x ∙ z)) p
+      (q ∙ ap (λ (r : Answer). tree_words tree (records_of (answer s (text ed source) toks)) r) (sym i))
 
-  pub short : (tree : ℕ) {x : OfBytes} {n : ℕ} {r : Answer} {tokens' tree' : List ℕ} → x ≡ tokenizing ed source table words → x ≡ lexer.Short n → r ≡ NoTokenRoom n
-      → tokens' ≡ token_words ed source table words → tree' ≡ replicate tree 0 → Conforms ed s source table words tree r tokens' tree'
-  short tree {n = n} z x i p q =
-      conforms tree (i ∙ answering_as tree (lexer.Short n) (sym x ∙ z)) p (q ∙ ap (λ (r : Answer). tree_words tree (records_of (answer s (text ed source) toks)) r) (sym i))
-
-  module _ {x : OfBytes} {n : ℕ} (z : x ≡ tokenizing ed source table words) (a : x ≡ lexer.Accepted n) {tokens' : List ℕ} (p : tokens' ≡ token_words ed source table words) where
+  module _ {x : OfBytes} {n : ℕ} (z : x ≡ tokenizing ed source table words) (a : x ≡ Ok n) {tokens' : List ℕ} (p : tokens' ≡ token_words ed source table words) where
     front : take (3 * n) tokens' ≡ records toks
     front = ap (λ (l : List ℕ). take (3 * n) l) p ∙ fronts ed source table words n (sym z ∙ a)
 
@@ -111,14 +116,14 @@ module _ (ed : Edition) (s : Symbol) (source table : List ℕ) (words : ℕ) whe
         let j : ended (length t₁) n (Ok m) ≡ in_room b n (length y.rows) =
         ap (λ (h : ℕ). in_room (ltb (h / 6) m.no.0) n m.no.0) l ∙ ap (λ (h : ℕ). in_room (ltb (length t / 6) h) n h) y.many in
         let i = ap (λ (o : OfTokens). parsed (length t / 6) n o) y.given in
-        conforms (length t) (e ∙ j ∙ sym i ∙ answering_as (length t) (lexer.Accepted n) (sym a ∙ z)) p
+        conforms (length t) (e ∙ j ∙ sym i ∙ answering_as (length t) (Ok n) (sym a ∙ z)) p
         (f ∙ ap (kept t₁) j ∙ kept_is t t₁ n y.rows b refl y.words
         ∙ ap (λ (o : OfTokens). tree_words (length t) (records_of o) (in_room b n (length y.rows))) (sym y.given)
         ∙ ap (λ (r : Answer). tree_words (length t) (records_of (answer s (text ed source) toks)) r) (sym (e ∙ j)))
     by_answer t t₁ t₂ (Err u) r k l e f =
         let y = failed_rows s (text ed source) toks u k in
         let i = ap (λ (o : OfTokens). parsed (length t / 6) n o) y in
-        conforms (length t) (e ∙ sym i ∙ answering_as (length t) (lexer.Accepted n) (sym a ∙ z)) p
+        conforms (length t) (e ∙ sym i ∙ answering_as (length t) (Ok n) (sym a ∙ z)) p
         (f ∙ ap (λ (h : ℕ). replicate h 0) l ∙ ap (λ (r : Answer). tree_words (length t) (records_of (answer s (text ed source) toks)) r) (sym e))
 
     -- 0, and 12 to 23

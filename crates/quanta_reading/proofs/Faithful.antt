@@ -1,5 +1,6 @@
 -- What conforms is faithful.
 -- Assumes nothing.
+use Rattle.std.specs.Prelude.{Option, Some, None, Result, Ok, Err}
 use mathlib.Core.Path.{◌≡◌, refl, ap, sym, subst, ◌∙◌}
 use mathlib.Core.Bool.{Bool, true, false}
 use mathlib.Core.List.{List, [], ◌++◌}
@@ -12,29 +13,23 @@ use Rattle.quanta_token.specs.declared.edition.Edition.{Edition}
 use Rattle.grammar.specs.Records.{Rec, nodes}
 use Rattle.grammar.specs.Facts.{Spaced}
 use Rattle.utf8.specs.Utf8.{first_bad}
-use Rattle.utf8.specs.declared.Found.{Found}
-use Rattle.utf8.specs.declared.Found.TheVariants.{At, AllWell}
 use Rattle.quanta_source.specs.Source.{checked}
-use Rattle.quanta_source.specs.declared.source.Checked.{Checked}
-use Rattle.quanta_source.specs.declared.source.Checked.TheVariants.{Clean, CarriageReturn, Barred}
+use Rattle.quanta_source.specs.declared.source.Fault.{Fault}
+use Rattle.quanta_source.specs.declared.source.Fault.TheVariants.{CarriageReturn, Barred}
 use Rattle.quanta_words.specs.Words.{bad_in}
 use Rattle.quanta_lexer.specs.Promise.{InOrder}
 use Rattle.quanta_lexer.specs.Refusals.{source_limit, table_limit}
-use Rattle.quanta_lexer.specs.Tokens.{Tok, Ending, done, refused, read_for, read_of, lex_all}
+use Rattle.quanta_lexer.specs.Tokens.{Tok, Read, Ending, done, refused, read_for, read_of, lex_all}
 use Rattle.quanta_lexer.specs.Tokenizing.{or_else, well_or, clean_or, reading as reading_of, room_for, in_room as in_room_of, tokenizing}
-use Rattle.quanta_lexer.specs.declared.lexer.Answer.{Answer as OfBytes}
-use Rattle.quanta_lexer.specs.declared.lexer.Answer.TheVariants as lexer
-use Rattle.quanta_lexer.specs.declared.lexer.Read.{Read}
-use Rattle.quanta_lexer.specs.declared.lexer.Read.TheVariants.{Tokens, Stopped}
+use Rattle.quanta_lexer.specs.Tokenizing.{Answer as OfBytes}
+use Rattle.quanta_lexer.specs.declared.refusal.Failure.TheVariants.{Refused, Short}
 use Rattle.quanta_lexer.proofs.PromiseLaws.{in_order, promised}
 use Rattle.quanta_grammar.specs.Productions.{Symbol, outs}
 use Rattle.quanta_grammar.specs.Reading.{Call}
 use Rattle.quanta_grammar.specs.Refine.{text, Answer as OfTokens, accept, reject, answer}
 use Rattle.quanta_grammar.proofs.Theorems.{unique, fewer, tallied, own_tokens_of, distinct, nests, answers, answered}
-use Rattle.quanta_grammar.proofs.Refined.{counted, spaced}
-use Rattle.quanta_reading.specs.declared.answer.Answer.{Answer}
-use Rattle.quanta_reading.specs.declared.answer.Answer.TheVariants.{Accepted, Lexical, NoTokenRoom, Syntax, NoTreeRoom}
-use Rattle.quanta_reading.specs.Reading.{in_room, parsed, lexed, records_of, record_words, tree_words, answering, reading, Conforms}
+use Rattle.quanta_grammar.proofs.Refined.{counted as numbered, spaced}
+use Rattle.quanta_reading.specs.Reading.{Answer, counted, in_room, parsed, lexed, records_of, record_words, tree_words, answering, reading, Conforms}
 use Rattle.quanta_reading.proofs.TokenWords.{closes, orders, length_refine}
 use Rattle.quanta_reading.proofs.Targets.{lawful_targets}
 use Rattle.quanta_reading.specs.Demand3.{Enough, Valid, tokens_of, Sentence, Exact, Faithful}
@@ -43,28 +38,28 @@ use Rattle.quanta_reading.specs.Demand3.{Enough, Valid, tokens_of, Sentence, Exa
 module _ (ed : Edition) (s t : List ℕ) where
   -- where tokens are counted, the text is valid
   abbrev Told : Read → Type 0
-  Told (Tokens n) = Valid ed s t
-  Told (Stopped k a e) = Unit {0}
+  Told (Ok n) = Valid ed s t
+  Told (Err r) = Unit {0}
 
   by_test : (b : Bool) (x y : Read) → Told x → Told y → Told (or_else b x y)
   unfolding or_else
   by_test true x y p q = p
   by_test false x y p q = q
 
-  by_ending : first_bad s ≡ AllWell → checked s ≡ Clean → (x : Ending) → (lex_all ed s t).ending ≡ x → Told (read_for (length (lex_all ed s t).toks) x)
+  by_ending : first_bad s ≡ None → checked s ≡ Ok tt → (x : Ending) → (lex_all ed s t).ending ≡ x → Told (read_for (length (lex_all ed s t).toks) x)
   by_ending u c done e = record { utf8 = u; clean = c; scanned = e }
   by_ending u c (refused k a b) e = tt
 
-  by_source : first_bad s ≡ AllWell → (x : Checked) → checked s ≡ x → Told (clean_or x (read_of (lex_all ed s t)))
+  by_source : first_bad s ≡ None → (x : Result Unit Fault) → checked s ≡ x → Told (clean_or x (read_of (lex_all ed s t)))
   unfolding clean_or read_of
-  by_source u (CarriageReturn i) e = tt
-  by_source u (Barred i) e = tt
-  by_source u Clean e = by_ending u e (lex_all ed s t).ending refl
+  by_source u (Err (CarriageReturn i)) e = tt
+  by_source u (Err (Barred i)) e = tt
+  by_source u (Ok v) e = by_ending u e (lex_all ed s t).ending refl
 
-  by_bytes : (x : Found) → first_bad s ≡ x → Told (well_or x (clean_or (checked s) (read_of (lex_all ed s t))))
+  by_bytes : (x : Option ℕ) → first_bad s ≡ x → Told (well_or x (clean_or (checked s) (read_of (lex_all ed s t))))
   unfolding well_or
-  by_bytes (At i) e = tt
-  by_bytes AllWell e = by_source e (checked s) refl
+  by_bytes (Some i) e = tt
+  by_bytes None e = by_source e (checked s) refl
 
   told : Told (reading_of ed s t)
   unfolding reading_of
@@ -75,23 +70,23 @@ module _ (ed : Edition) (s t : List ℕ) where
       (by_bytes (first_bad s) refl)))
 
   abbrev Said : OfBytes → Type 0
-  Said (lexer.Accepted n) = Valid ed s t
-  Said (lexer.Refused k a e) = Unit {0}
-  Said (lexer.Short n) = Unit {0}
+  Said (Ok n) = Valid ed s t
+  Said (Err (Refused r)) = Unit {0}
+  Said (Err (Short n)) = Unit {0}
 
   by_room : (b : Bool) (n : ℕ) → Valid ed s t → Said (room_for b n)
   by_room true n v = tt
   by_room false n v = v
 
   by_read : (words : ℕ) (x : Read) → Told x → Said (in_room_of words x)
-  by_read words (Tokens n) v = by_room (ltb (words / 3) n) n v
-  by_read words (Stopped k a e) v = tt
+  by_read words (Ok n) v = by_room (ltb (words / 3) n) n v
+  by_read words (Err r) v = tt
 
   said : (words : ℕ) → Said (tokenizing ed s t words)
   unfolding tokenizing
   said words = by_read words (reading_of ed s t) told
 
-  valid : (words n : ℕ) → tokenizing ed s t words ≡ lexer.Accepted n → Valid ed s t
+  valid : (words n : ℕ) → tokenizing ed s t words ≡ Ok n → Valid ed s t
   valid words n e = subst Said e (said words)
 
 -- .. and a valid text is read, where there is room
@@ -105,7 +100,7 @@ module _ (ed : Edition) (s t : List ℕ) (words tree : ℕ) (g : Enough s t word
   many : length toks ≤ length s + 1
   many = (promised ed s t (length toks) g.limited v.scanned refl).few
 
-  read : tokenizing ed s t words ≡ lexer.Accepted (length toks)
+  read : tokenizing ed s t words ≡ Ok (length toks)
   unfolding tokenizing reading_of or_else well_or clean_or read_of
   read =
       rw (
@@ -122,11 +117,8 @@ module _ (ed : Edition) (s t : List ℕ) (words tree : ℕ) (g : Enough s t word
 module _ (ed : Edition) {s : Symbol} (c : Call s) (source table : List ℕ) (words tree : ℕ) (g : Enough source table words tree) where
   -- what is accepted is a sentence
   abbrev Meant : Answer → Type 0
-  Meant (Accepted n m) = Sentence ed s source table
-  Meant (Lexical k a e) = Unit {0}
-  Meant (NoTokenRoom n) = Unit {0}
-  Meant (Syntax e) = Unit {0}
-  Meant (NoTreeRoom m) = Unit {0}
+  Meant (Ok c) = Sentence ed s source table
+  Meant (Err f) = Unit {0}
 
   by_derived : (rs : List Rec) → Valid ed source table → answer s (text ed source) (lex_all ed source table).toks ≡ accept rs → Sentence ed s source table
   by_derived rs v e =
@@ -142,9 +134,9 @@ module _ (ed : Edition) {s : Symbol} (c : Call s) (source table : List ℕ) (wor
   by_tokens n (reject k a b w f) v e = tt
 
   by_lexer : (x : OfBytes) → tokenizing ed source table words ≡ x → Meant (lexed x (λ n. parsed (tree / 6) n (answer s (text ed source) (lex_all ed source table).toks)))
-  by_lexer (lexer.Accepted n) e = by_tokens n (answer s (text ed source) (lex_all ed source table).toks) (valid ed source table words n e) refl
-  by_lexer (lexer.Refused k a b) e = tt
-  by_lexer (lexer.Short n) e = tt
+  by_lexer (Ok n) e = by_tokens n (answer s (text ed source) (lex_all ed source table).toks) (valid ed source table words n e) refl
+  by_lexer (Err (Refused r)) e = tt
+  by_lexer (Err (Short n)) e = tt
 
   meant : Meant (answering ed s source table words tree)
   unfolding answering
@@ -169,7 +161,7 @@ module _ (ed : Edition) {s : Symbol} (c : Call s) (source table : List ℕ) (wor
         let b = length_refine (text ed source) 0 toks' in
         omega (arith, a, b, many ed source table words tree g x.valid, g.tree_room)
 
-    accepts : answering ed s source table words tree ≡ Accepted (length toks') (length rows)
+    accepts : answering ed s source table words tree ≡ counted (length toks') (length rows)
     unfolding answering
     accepts =
         ap (λ (o : OfBytes). lexed o (λ n. parsed (tree / 6) n (answer s (text ed source) toks'))) (read ed source table words tree g x.valid)
@@ -193,7 +185,7 @@ module _ (ed : Edition) {s : Symbol} (c : Call s) (source table : List ℕ) (wor
         nested = λ x. nests c x.derivation 0 (length source) x.spells (spans x);
         tallied = λ x. tallied x.derivation;
         owned = λ x. own_tokens_of x.derivation x.spells;
-        distinct = λ x. distinct x.derivation x.spells (counted (text ed source) (lex_all ed source table).toks);
+        distinct = λ x. distinct x.derivation x.spells (numbered (text ed source) (lex_all ed source table).toks);
       }
 
 -- A CALL THAT CONFORMS IS FAITHFUL

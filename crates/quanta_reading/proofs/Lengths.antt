@@ -1,5 +1,6 @@
 -- The words of a reading are as many as the buffers have.
 -- Assumes nothing.
+use Rattle.std.specs.Prelude.{Ok, Err}
 use mathlib.Core.Path.{◌≡◌, refl, ap, ◌∙◌}
 use mathlib.Core.Bool.{Bool, true, false}
 use mathlib.Core.List.{List, [], ◌∷◌}
@@ -12,8 +13,8 @@ use Rattle.quanta_token.specs.declared.edition.Edition.{Edition}
 use Rattle.grammar.specs.Records.{Rec}
 use Rattle.quanta_lexer.specs.Tokens.{records, lex_all}
 use Rattle.quanta_lexer.specs.Tokenizing.{tokenizing, token_words}
-use Rattle.quanta_lexer.specs.declared.lexer.Answer.{Answer as OfBytes}
-use Rattle.quanta_lexer.specs.declared.lexer.Answer.TheVariants as lexer
+use Rattle.quanta_lexer.specs.Tokenizing.{Answer as OfBytes}
+use Rattle.quanta_lexer.specs.declared.refusal.Failure.TheVariants.{Refused, Short}
 use Rattle.quanta_lexer.proofs.Theorems.{accepted, records_then_zeros, zeros_after_refusal, zeros_after_short}
 use Rattle.quanta_grammar.specs.Productions.{Symbol}
 use Rattle.quanta_grammar.specs.Refine.{text, Answer as OfTokens, accept, reject, answer}
@@ -27,12 +28,12 @@ token_words_lem : (ed : Edition) (s t : List ℕ) (words : ℕ) → length (toke
 token_words_lem ed s t words = by (tokenizing ed s t words) refl
   where
     by : (x : OfBytes) → tokenizing ed s t words ≡ x → length (token_words ed s t words) ≡ words
-    by (lexer.Accepted n) e =
+    by (Ok n) e =
         let p = accepted ed s t words n e in
         let ts = (lex_all ed s t).toks in
         omega (arith, ap length (records_then_zeros ed s t words n e), length-append (records ts) (replicate (words - 3 * n) 0), length_records ts, zeros (words - 3 * n), p.0.counted, p.1)
-    by (lexer.Refused k a b) e = ap length (zeros_after_refusal ed s t words k a b e) ∙ zeros words
-    by (lexer.Short n) e = ap length (zeros_after_short ed s t words n e) ∙ zeros words
+    by (Err (Refused r)) e = ap length (zeros_after_refusal ed s t words r.number r.start r.end e) ∙ zeros words
+    by (Err (Short n)) e = ap length (zeros_after_short ed s t words n e) ∙ zeros words
 
 length_words : (rs : List Rec) → length (record_words rs) ≡ 6 * length rs
 length_words [] = refl
@@ -49,9 +50,9 @@ by_tokens tree n (accept rs) = by_room tree n rs (ltb (tree / 6) (length rs)) re
 by_tokens tree n (reject k a b w f) = zeros tree
 
 by_lexer : (tree : ℕ) (o : OfTokens) (x : OfBytes) → length (tree_words tree (records_of o) (lexed x (λ n. parsed (tree / 6) n o))) ≡ tree
-by_lexer tree o (lexer.Accepted n) = by_tokens tree n o
-by_lexer tree o (lexer.Refused k a b) = zeros tree
-by_lexer tree o (lexer.Short n) = zeros tree
+by_lexer tree o (Ok n) = by_tokens tree n o
+by_lexer tree o (Err (Refused r)) = zeros tree
+by_lexer tree o (Err (Short n)) = zeros tree
 
 pub every_word : (ed : Edition) (s : Symbol) (source table : List ℕ) (tokens tree : ℕ) → (length (reading ed s source table tokens tree).tokens ≡ tokens) × (length (reading ed s source table tokens tree).tree ≡ tree)
 unfolding reading answering

@@ -1,5 +1,6 @@
 -- The counts and the needs of an answer are those of the defined lists.
 -- Assumes nothing.
+use Rattle.std.specs.Prelude.{Ok, Err}
 use mathlib.Core.Path.{◌≡◌, refl, subst}
 use mathlib.Core.Bool.{Bool, true, false}
 use mathlib.Core.List.{List}
@@ -11,14 +12,13 @@ use Rattle.quanta_token.specs.declared.edition.Edition.{Edition}
 use Rattle.grammar.specs.Records.{Rec}
 use Rattle.quanta_lexer.specs.Tokens.{lex_all}
 use Rattle.quanta_lexer.specs.Tokenizing.{tokenizing}
-use Rattle.quanta_lexer.specs.declared.lexer.Answer.{Answer as OfBytes}
-use Rattle.quanta_lexer.specs.declared.lexer.Answer.TheVariants as lexer
+use Rattle.quanta_lexer.specs.Tokenizing.{Answer as OfBytes}
+use Rattle.quanta_lexer.specs.declared.refusal.Failure.TheVariants.{Refused, Short}
 use Rattle.quanta_lexer.proofs.Theorems.{accepted, short}
 use Rattle.quanta_grammar.specs.Productions.{Symbol}
 use Rattle.quanta_grammar.specs.Refine.{text, Answer as OfTokens, accept, reject, answer}
-use Rattle.quanta_reading.specs.declared.answer.Answer.{Answer}
-use Rattle.quanta_reading.specs.declared.answer.Answer.TheVariants.{Accepted, Lexical, NoTokenRoom, Syntax, NoTreeRoom}
-use Rattle.quanta_reading.specs.Reading.{in_room, parsed, lexed, answering, reading}
+use Rattle.quanta_reading.specs.declared.answer.Failure.TheVariants.{Lexical, NoTokenRoom, Syntax, NoTreeRoom}
+use Rattle.quanta_reading.specs.Reading.{Answer, counted, in_room, parsed, lexed, answering, reading}
 
 module _ (ed : Edition) (s : Symbol) (source table : List ℕ) (tokens tree : ℕ) where
   -- the m records that the grammar answers
@@ -26,11 +26,11 @@ module _ (ed : Edition) (s : Symbol) (source table : List ℕ) (tokens tree : �
   Records m = (rs : List Rec) × (answer s (text ed source) (lex_all ed source table).toks ≡ accept rs) × (length rs ≡ m)
 
   abbrev pub Counted : Answer → Type 0
-  Counted (Accepted n m) = (length (lex_all ed source table).toks ≡ n) × Records m × (m ≤ tree / 6)
-  Counted (Lexical k a e) = Unit {0}
-  Counted (NoTokenRoom n) = (length (lex_all ed source table).toks ≡ n) × (tokens / 3 < n)
-  Counted (Syntax e) = Unit {0}
-  Counted (NoTreeRoom m) = Records m × (tree / 6 < m)
+  Counted (Ok c) = (length (lex_all ed source table).toks ≡ c.tokens) × Records c.records × (c.records ≤ tree / 6)
+  Counted (Err (Lexical r)) = Unit {0}
+  Counted (Err (NoTokenRoom n)) = (length (lex_all ed source table).toks ≡ n) × (tokens / 3 < n)
+  Counted (Err (Syntax e)) = Unit {0}
+  Counted (Err (NoTreeRoom m)) = Records m × (tree / 6 < m)
 
   by_room : (n : ℕ) (rs : List Rec) (b : Bool) → length (lex_all ed source table).toks ≡ n → answer s (text ed source) (lex_all ed source table).toks ≡ accept rs → ltb (tree / 6) (length rs) ≡ b → Counted (in_room b n (length rs))
   by_room n rs true c e h = ((rs, e, refl), ltb-true (tree / 6) (length rs) h)
@@ -41,19 +41,19 @@ module _ (ed : Edition) (s : Symbol) (source table : List ℕ) (tokens tree : �
   by_tokens n (reject k a b w f) c e = tt
 
   by_lexer : (x : OfBytes) → tokenizing ed source table tokens ≡ x → Counted (lexed x (λ n. parsed (tree / 6) n (answer s (text ed source) (lex_all ed source table).toks)))
-  by_lexer (lexer.Accepted n) e = by_tokens n (answer s (text ed source) (lex_all ed source table).toks) (accepted ed source table tokens n e).0.counted refl
-  by_lexer (lexer.Refused k a b) e = tt
-  by_lexer (lexer.Short n) e = let p = short ed source table tokens n e in (p.0.counted, p.1)
+  by_lexer (Ok n) e = by_tokens n (answer s (text ed source) (lex_all ed source table).toks) (accepted ed source table tokens n e).0.counted refl
+  by_lexer (Err (Refused r)) e = tt
+  by_lexer (Err (Short n)) e = let p = short ed source table tokens n e in (p.0.counted, p.1)
 
   counts : Counted (reading ed s source table tokens tree).answer
   unfolding reading answering
   counts = by_lexer (tokenizing ed source table tokens) refl
 
-  pub accepted_counts : (n m : ℕ) → (reading ed s source table tokens tree).answer ≡ Accepted n m → (length (lex_all ed source table).toks ≡ n) × Records m × (m ≤ tree / 6)
+  pub accepted_counts : (n m : ℕ) → (reading ed s source table tokens tree).answer ≡ counted n m → (length (lex_all ed source table).toks ≡ n) × Records m × (m ≤ tree / 6)
   accepted_counts n m e = subst Counted e counts
 
-  pub token_need : (n : ℕ) → (reading ed s source table tokens tree).answer ≡ NoTokenRoom n → (length (lex_all ed source table).toks ≡ n) × (tokens / 3 < n)
+  pub token_need : (n : ℕ) → (reading ed s source table tokens tree).answer ≡ Err (NoTokenRoom n) → (length (lex_all ed source table).toks ≡ n) × (tokens / 3 < n)
   token_need n e = subst Counted e counts
 
-  pub tree_need : (m : ℕ) → (reading ed s source table tokens tree).answer ≡ NoTreeRoom m → Records m × (tree / 6 < m)
+  pub tree_need : (m : ℕ) → (reading ed s source table tokens tree).answer ≡ Err (NoTreeRoom m) → Records m × (tree / 6 < m)
   tree_need m e = subst Counted e counts

@@ -1,5 +1,6 @@
 -- The numbers of a call's answer fit a word.
 -- Assumes nothing.
+use Rattle.std.specs.Prelude.{Ok, Err}
 use mathlib.Core.Path.{◌≡◌, refl, ap, sym, subst}
 use mathlib.Core.Bool.{Bool, true, false}
 use mathlib.Core.List.{List}
@@ -11,21 +12,24 @@ use Rattle.quanta_token.specs.declared.edition.Edition.{Edition}
 use Rattle.quanta_lexer.specs.Promise.{Promised}
 use Rattle.quanta_lexer.specs.Tokens.{Tok, lex_all}
 use Rattle.quanta_lexer.specs.Tokenizing.{tokenizing}
-use Rattle.quanta_lexer.specs.declared.lexer.Answer.{Answer as OfBytes}
-use Rattle.quanta_lexer.specs.declared.lexer.Answer.TheVariants as lexer
+use Rattle.quanta_lexer.specs.Tokenizing.{Answer as OfBytes}
+use Rattle.quanta_lexer.specs.declared.refusal.Failure.TheVariants.{Refused, Short}
 use Rattle.quanta_lexer.proofs.Theorems.{accepted, short_small, refusals_small}
 use Rattle.quanta_grammar.specs.Productions.{Symbol}
 use Rattle.quanta_grammar.specs.Reading.{Call}
 use Rattle.quanta_grammar.specs.Refine.{text, Answer as OfTokens, accept, reject, answer}
 use Rattle.quanta_grammar.proofs.Theorems.{fewer, answered}
-use Rattle.quanta_reading.specs.declared.answer.Answer.{Answer}
-use Rattle.quanta_reading.specs.Reading.{in_room, parsed, lexed, answering, reading, Conforms}
-use Rattle.quanta_reading.specs.Values.{FitsWord, Fits}
+use Rattle.quanta_reading.specs.declared.answer.Failure.{Failure}
+use Rattle.quanta_reading.specs.Reading.{Answer, in_room, parsed, lexed, answering, reading, Conforms}
+use Rattle.quanta_reading.specs.Values.{FailureFits, FitsFailure, FitsWord, Fits}
 use Rattle.quanta_reading.proofs.TokenWords.{closes, length_refine}
 
--- an answer that is taken apart
+-- an answer, or a failure, that is taken apart
 pub fits_of : {r x : Answer} → r ≡ x → Fits r → FitsWord x
 fits_of z f = subst FitsWord z f.by
+
+pub failure_fits_of : {r x : Failure} → r ≡ x → FitsFailure r → FailureFits x
+failure_fits_of z f = subst FailureFits z f.by
 
 module _ (ed : Edition) {s : Symbol} (c : Call s) (source table : List ℕ) (words tree : ℕ) where
   abbrev toks : List Tok
@@ -46,9 +50,9 @@ module _ (ed : Edition) {s : Symbol} (c : Call s) (source table : List ℕ) (wor
   by_tokens n (reject k a b w f) p e = tt
 
   by_lexer : (x : OfBytes) → tokenizing ed source table words ≡ x → FitsWord (lexed x (λ n. parsed (tree / 6) n (answer s (text ed source) toks)))
-  by_lexer (lexer.Accepted n) e = by_tokens n (answer s (text ed source) toks) (accepted ed source table words n e).0 refl
-  by_lexer (lexer.Refused k a b) e = let h = refusals_small ed source table words k a b e in (omega (arith, h.0), omega (arith, h.1))
-  by_lexer (lexer.Short n) e = omega (arith, short_small ed source table words n e)
+  by_lexer (Ok n) e = by_tokens n (answer s (text ed source) toks) (accepted ed source table words n e).0 refl
+  by_lexer (Err (Refused r)) e = let h = refusals_small ed source table words r.number r.start r.end e in (omega (arith, h.0), omega (arith, h.1))
+  by_lexer (Err (Short n)) e = omega (arith, short_small ed source table words n e)
 
   by_answering : FitsWord (answering ed s source table words tree)
   unfolding answering

@@ -1,5 +1,6 @@
 -- THE THEOREMS of the five calls: this page states and cites.
 -- Assumes nothing.
+use Rattle.std.specs.Prelude.{Err}
 use mathlib.Core.Path.{◌≡◌, sym, ◌∙◌}
 use mathlib.Core.List.{List}
 use mathlib.Core.Logic.{◌↔◌, ◌⊎◌}
@@ -9,15 +10,14 @@ use Rattle.quanta_token.specs.declared.edition.Edition.{Edition}
 use Rattle.grammar.specs.Grammar.{Tok, yield, Lawful}
 use Rattle.quanta_token.specs.declared.edition.Edition.TheVariants.{One, Two}
 use Rattle.quanta_lexer.specs.FirstNoDay.{AllDays, FirstNoDay}
-use Rattle.quanta_lexer.specs.Refusals.{no_day}
+use Rattle.quanta_lexer.specs.Refusals.{no_day, refusal}
 use Rattle.quanta_lexer.specs.Tokens.{lex_all}
 use Rattle.quanta_grammar.specs.Productions.{Symbol, Derivation}
 use Rattle.quanta_grammar.specs.Reading.{Call, terms}
 use Rattle.quanta_grammar.specs.Before.{refine_before}
-use Rattle.quanta_reading.specs.declared.answer.Answer.{Answer}
-use Rattle.quanta_reading.specs.declared.answer.Answer.TheVariants.{Accepted, Lexical, NoTokenRoom, NoTreeRoom}
+use Rattle.quanta_reading.specs.declared.answer.Failure.TheVariants.{Lexical, NoTokenRoom, NoTreeRoom}
 use Rattle.quanta_reading.specs.declared.outcome.Outcome.{Outcome}
-use Rattle.quanta_reading.specs.Reading.{reading, Conforms}
+use Rattle.quanta_reading.specs.Reading.{Answer, counted, reading, Conforms}
 use Rattle.quanta_reading.specs.Targets.{EveryTarget}
 use Rattle.quanta_reading.specs.Demand3.{Enough, Valid, Spelled, Exact}
 use Rattle.quanta_reading.specs.Before.{reading_before, ConformsBefore}
@@ -57,13 +57,13 @@ every_word = Lengths.every_word
 
 -- COUNTS AND NEEDS are those of the defined lists: the tokens, and the records that the grammar answers.
 module _ (ed : Edition) (s : Symbol) (source table : List ℕ) (tokens tree : ℕ) where
-  pub accepted_counts : (n m : ℕ) → (reading ed s source table tokens tree).answer ≡ Accepted n m → (length (lex_all ed source table).toks ≡ n) × goal.Records ed s source table tokens tree m × (m ≤ tree / 6)
+  pub accepted_counts : (n m : ℕ) → (reading ed s source table tokens tree).answer ≡ counted n m → (length (lex_all ed source table).toks ≡ n) × goal.Records ed s source table tokens tree m × (m ≤ tree / 6)
   accepted_counts = goal.accepted_counts ed s source table tokens tree
 
-  pub token_need : (n : ℕ) → (reading ed s source table tokens tree).answer ≡ NoTokenRoom n → (length (lex_all ed source table).toks ≡ n) × (tokens / 3 < n)
+  pub token_need : (n : ℕ) → (reading ed s source table tokens tree).answer ≡ Err (NoTokenRoom n) → (length (lex_all ed source table).toks ≡ n) × (tokens / 3 < n)
   token_need = goal.token_need ed s source table tokens tree
 
-  pub tree_need : (m : ℕ) → (reading ed s source table tokens tree).answer ≡ NoTreeRoom m → goal.Records ed s source table tokens tree m × (tree / 6 < m)
+  pub tree_need : (m : ℕ) → (reading ed s source table tokens tree).answer ≡ Err (NoTreeRoom m) → goal.Records ed s source table tokens tree m × (tree / 6 < m)
   tree_need = goal.tree_need ed s source table tokens tree
 
 -- DEMAND 3: with room for all, what conforms accepts exactly the sentences, and has the records of the one derivation.
@@ -96,18 +96,18 @@ spelled_before = Before.spelled_before
 -- THE EDITIONS: a source accepted in edition 1 is read the same in edition 2, answer and every word, unless some Date
 -- isn't a day; then edition 2 refuses it by 28 at the first such Date, and both buffers are zero.
 pub both_editions : {s : Symbol} → Call s → (source table : List ℕ) (tokens tree n m : ℕ)
-    → (reading One s source table tokens tree).answer ≡ Accepted n m
+    → (reading One s source table tokens tree).answer ≡ counted n m
     → (AllDays source (lex_all One source table).toks
     × (reading Two s source table tokens tree ≡ reading One s source table tokens tree))
     ⊎ ((x : FirstNoDay source (lex_all One source table) (lex_all Two source table))
     × (reading Two s source table tokens tree
-    ≡ record { answer = Lexical no_day x.start x.stop; tokens = replicate tokens 0; tree = replicate tree 0 }))
+    ≡ record { answer = Err (Lexical (refusal no_day x.start x.stop)); tokens = replicate tokens 0; tree = replicate tree 0 }))
 both_editions = Editions.both
 
 -- What both accept has the same tokens and records in both.
 pub same_in_both : {s : Symbol} → Call s → (source table : List ℕ) (tokens tree n m n₂ m₂ : ℕ)
-    → (reading One s source table tokens tree).answer ≡ Accepted n m
-    → (reading Two s source table tokens tree).answer ≡ Accepted n₂ m₂
+    → (reading One s source table tokens tree).answer ≡ counted n m
+    → (reading Two s source table tokens tree).answer ≡ counted n₂ m₂
     → reading Two s source table tokens tree ≡ reading One s source table tokens tree
 same_in_both c source table tokens tree n m n₂ m₂ e f = Editions.same c source table tokens tree n m e n₂ m₂ f
 

@@ -1,5 +1,6 @@
 -- The words of the lexer's tokens: the parser may stand at their front, and reads them as the tokens that they came from.
 -- Assumes nothing.
+use Rattle.std.specs.Prelude.{Ok}
 use mathlib.Core.Path.{◌≡◌, refl, ap, sym, ◌∙◌}
 use mathlib.Core.List.{List, [], ◌∷◌}
 use Prim.Native.Nat.{ℕ, zero, suc, ◌+◌, ◌-◌, ◌*◌, ◌≤◌, ◌<◌}
@@ -13,7 +14,6 @@ use Rattle.quanta_token.specs.TokenKind.{code, Eof}
 use Rattle.quanta_lexer.specs.Promise.{InOrder, eof, more, Promised}
 use Rattle.quanta_lexer.specs.Tokens.{Tok, records, lex_all}
 use Rattle.quanta_lexer.specs.Tokenizing.{tokenizing, token_words}
-use Rattle.quanta_lexer.specs.declared.lexer.Answer.TheVariants as lexer
 use Rattle.quanta_lexer.proofs.Theorems.{accepted, records_then_zeros}
 use Rattle.quanta_grammar.specs.Refine.{Plain, Text, classify, ahead, refine, closed, Ordered}
 use Rattle.quanta_cursor.specs.Tokens.{size, kind_at, plain_at, run, plain_from, from, Ready}
@@ -95,7 +95,7 @@ ready s ts n p =
     }
 
 -- the front of the token buffer is these words
-pub fronts : (ed : Edition) (s t : List ℕ) (words n : ℕ) → tokenizing ed s t words ≡ lexer.Accepted n → take (3 * n) (token_words ed s t words) ≡ records (lex_all ed s t).toks
+pub fronts : (ed : Edition) (s t : List ℕ) (words n : ℕ) → tokenizing ed s t words ≡ Ok n → take (3 * n) (token_words ed s t words) ≡ records (lex_all ed s t).toks
 fronts ed s t words n e =
     let p = (accepted ed s t words n e).0 in
     ap (λ (l : List ℕ). take (3 * n) l) (records_then_zeros ed s t words n e)

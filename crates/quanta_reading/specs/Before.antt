@@ -8,8 +8,7 @@ use Rattle.quanta_lexer.specs.Tokenizing.{tokenizing, token_words}
 use Rattle.quanta_grammar.specs.Productions.{Symbol}
 use Rattle.quanta_grammar.specs.Refine.{Answer as OfTokens}
 use Rattle.quanta_grammar.specs.Before.{answer_before}
-use Rattle.quanta_reading.specs.declared.answer.Answer.{Answer}
-use Rattle.quanta_reading.specs.Reading.{Reading, parsed, lexed, records_of, tree_words}
+use Rattle.quanta_reading.specs.Reading.{Answer, Reading, parsed, lexed, records_of, tree_words}
 
 abbrev pub grammar_before : Symbol → List ℕ → List ℕ → OfTokens
 grammar_before s source table = answer_before s source (lex_all One source table).toks

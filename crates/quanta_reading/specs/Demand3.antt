@@ -1,15 +1,13 @@
 -- DEMAND 3, over the edition: with room for all, a call accepts exactly the sentences, and leaves the records of the one
 -- derivation.
 -- Assumes nothing.
-use Rattle.std.specs.Prelude.{◌≡◌, List, [], ◌++◌, ◌↔◌, ℕ, ◌+◌, ◌-◌, ◌*◌, ◌≤◌, length, replicate}
+use Rattle.std.specs.Prelude.{◌≡◌, List, [], ◌++◌, ◌↔◌, ℕ, ◌+◌, ◌-◌, ◌*◌, ◌≤◌, length, replicate, None, Ok}
 use Rattle.quanta_token.specs.declared.edition.Edition.{Edition}
 use Rattle.grammar.specs.Grammar.{Tok, yield, Spells}
 use Rattle.grammar.specs.Records.{tree_of, nodes}
 use Rattle.grammar.specs.Facts.{Within, Tallied, OwnTokens, owning}
 use Rattle.utf8.specs.Utf8.{first_bad}
-use Rattle.utf8.specs.declared.Found.TheVariants.{AllWell}
 use Rattle.quanta_source.specs.Source.{checked}
-use Rattle.quanta_source.specs.declared.source.Checked.TheVariants.{Clean}
 use Rattle.quanta_words.specs.Words.{bad_in}
 use Rattle.quanta_lexer.specs.Refusals.{source_limit, table_limit}
 use Rattle.quanta_lexer.specs.Tokens.{done, lex_all}
@@ -17,9 +15,7 @@ use Rattle.quanta_grammar.specs.Productions.{Symbol, grammar, Derivation, outs}
 use Rattle.quanta_grammar.specs.Measuring.{size}
 use Rattle.quanta_grammar.specs.OwnTokens.{own_kinds}
 use Rattle.quanta_grammar.specs.Refine.{text, refine}
-use Rattle.quanta_reading.specs.declared.answer.Answer.{Answer}
-use Rattle.quanta_reading.specs.declared.answer.Answer.TheVariants.{Accepted}
-use Rattle.quanta_reading.specs.Reading.{record_words}
+use Rattle.quanta_reading.specs.Reading.{Answer, counted, record_words}
 use Rattle.quanta_reading.specs.Targets.{EveryTarget}
 
 -- a well-formed table, a source within the limit, and room for one token record per byte plus one and for as many tree records
@@ -33,9 +29,9 @@ pub record Enough (source table : List ℕ) (tokens tree : ℕ) : Type 0 where
 -- lexically valid: none of 3 to 10 arises, nor 28
 pub record Valid (ed : Edition) (source table : List ℕ) : Type 0 where
   -- 3: it is UTF-8
-  pub utf8 : first_bad source ≡ AllWell
+  pub utf8 : first_bad source ≡ None
   -- 4 and 5: no CR without LF, no barred character
-  pub clean : checked source ≡ Clean
+  pub clean : checked source ≡ Ok tt
   -- 6 to 10, and 28 in edition 2: no failing token
   pub scanned : (lex_all ed source table).ending ≡ done
 
@@ -59,7 +55,7 @@ pub record Sentence (ed : Edition) (s : Symbol) (source table : List ℕ) : Type
   pub measured : size derivation ≤ 64
 
 abbrev pub Accepts : Answer → Type 0
-Accepts r = (n : ℕ) × (m : ℕ) × (r ≡ Accepted n m)
+Accepts r = (n : ℕ) × (m : ℕ) × (r ≡ counted n m)
 
 -- the call s answers r and leaves these words in a tree buffer of so many
 pub record Exact (ed : Edition) (s : Symbol) (source table : List ℕ) (tree : ℕ) (r : Answer) (words : List ℕ) : Type 0 where
@@ -68,7 +64,7 @@ pub record Exact (ed : Edition) (s : Symbol) (source table : List ℕ) (tree : �
   -- the derivation is the only one
   pub only : (d e : Derivation s) → Spelled ed source table d → Spelled ed source table e → d ≡ e
   -- it yields the counts and the tree words
-  pub counts : (x : Sentence ed s source table) → r ≡ Accepted (length (lex_all ed source table).toks) (length (nodes outs x.derivation))
+  pub counts : (x : Sentence ed s source table) → r ≡ counted (length (lex_all ed source table).toks) (length (nodes outs x.derivation))
   pub yields : (x : Sentence ed s source table) → let rs = nodes outs x.derivation in words ≡ record_words rs ++ replicate (tree - 6 * length rs) 0
   -- children lie inside their parent, siblings in order without overlap, all inside the source
   pub nested : (x : Sentence ed s source table) → Within 0 (length source) (tree_of outs x.derivation)

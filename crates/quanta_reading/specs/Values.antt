@@ -1,16 +1,15 @@
 -- Answers in document 01's numbers, and what an exported call says.
 -- Assumes nothing.
-use Rattle.std.specs.Prelude.{◌≡◌, List, ℕ, ◌<◌, replicate}
+use Rattle.std.specs.Prelude.{◌≡◌, List, ℕ, ◌<◌, replicate, Result, Ok, Err}
 use Rattle.quanta_token.specs.Editions.{edition_of}
 use Rattle.quanta_token.specs.declared.edition.Edition.{Edition}
-use Rattle.quanta_token.specs.declared.edition.Numbered.{Numbered}
-use Rattle.quanta_token.specs.declared.edition.Numbered.TheVariants.{Known, Unknown}
+use Rattle.quanta_token.specs.declared.edition.UnknownEdition.{UnknownEdition}
 use Rattle.quanta_lexer.specs.Refusals.{no_room}
 use Rattle.quanta_grammar.specs.Productions.{Symbol}
-use Rattle.quanta_reading.specs.declared.answer.Answer.{Answer}
-use Rattle.quanta_reading.specs.declared.answer.Answer.TheVariants.{Accepted, Lexical, NoTokenRoom, Syntax, NoTreeRoom}
+use Rattle.quanta_reading.specs.declared.answer.Failure.{Failure}
+use Rattle.quanta_reading.specs.declared.answer.Failure.TheVariants.{Lexical, NoTokenRoom, Syntax, NoTreeRoom}
 use Rattle.quanta_reading.specs.declared.outcome.Outcome.{Outcome}
-use Rattle.quanta_reading.specs.Reading.{Conforms}
+use Rattle.quanta_reading.specs.Reading.{Answer, Conforms}
 use Rattle.quanta_reading.specs.Demand3.{Faithful}
 
 -- 23: too few tree records
@@ -25,21 +24,31 @@ accepted n m = record { number = 0; start = 0; end = 0; wanted = 0; found = 0; n
 abbrev pub refused : ℕ → ℕ → ℕ → ℕ → ℕ → ℕ → Outcome
 refused k a e w f n = record { number = k; start = a; end = e; wanted = w; found = f; need = n; tokens = 0; records = 0 }
 
--- the numbers of an answer; fields not named are 0
+-- the numbers of a failure; fields not named are 0
+abbrev pub failed : Failure → Outcome
+failed (Lexical e) = refused e.number e.start e.end 0 0 0
+failed (NoTokenRoom n) = refused no_room 0 0 0 0 n
+failed (Syntax e) = refused e.number e.span.start e.span.end e.wanted e.found 0
+failed (NoTreeRoom m) = refused no_tree_room 0 0 0 0 m
+
+-- .. and of an answer
 abbrev pub values : Answer → Outcome
-values (Accepted n m) = accepted n m
-values (Lexical k a e) = refused k a e 0 0 0
-values (NoTokenRoom n) = refused no_room 0 0 0 0 n
-values (Syntax e) = refused e.number e.span.start e.span.end e.wanted e.found 0
-values (NoTreeRoom m) = refused no_tree_room 0 0 0 0 m
+values (Ok c) = accepted c.tokens c.records
+values (Err f) = failed f
 
 -- each number fits a word
+abbrev pub FailureFits : Failure → Type 0
+FailureFits (Lexical e) = (e.start < 4294967296) × (e.end < 4294967296)
+FailureFits (NoTokenRoom n) = n < 4294967296
+FailureFits (Syntax e) = Unit {0}
+FailureFits (NoTreeRoom m) = m < 4294967296
+
+pub record FitsFailure (f : Failure) : Type 0 where
+  pub by : FailureFits f
+
 abbrev pub FitsWord : Answer → Type 0
-FitsWord (Accepted n m) = (n < 4294967296) × (m < 4294967296)
-FitsWord (Lexical k a e) = (a < 4294967296) × (e < 4294967296)
-FitsWord (NoTokenRoom n) = n < 4294967296
-FitsWord (Syntax e) = Unit {0}
-FitsWord (NoTreeRoom m) = m < 4294967296
+FitsWord (Ok c) = (c.tokens < 4294967296) × (c.records < 4294967296)
+FitsWord (Err f) = FailureFits f
 
 pub record Fits (r : Answer) : Type 0 where
   pub by : FitsWord r
@@ -55,10 +64,10 @@ ExportedIn ed s source table tokens tree r tokens' tree' =
     × Faithful ed s source table tokens tree a tree'
 
 -- .. or 29, and both buffers zero
-abbrev pub ExportedBy : Numbered → Symbol → List ℕ → List ℕ → ℕ → ℕ → Outcome → List ℕ → List ℕ → Type 0
-ExportedBy (Known ed) s source table tokens tree r tokens' tree' =
+abbrev pub ExportedBy : Result Edition UnknownEdition → Symbol → List ℕ → List ℕ → ℕ → ℕ → Outcome → List ℕ → List ℕ → Type 0
+ExportedBy (Ok ed) s source table tokens tree r tokens' tree' =
     ExportedIn ed s source table tokens tree r tokens' tree'
-ExportedBy Unknown s source table tokens tree r tokens' tree' =
+ExportedBy (Err u) s source table tokens tree r tokens' tree' =
     (r ≡ refused unknown_edition 0 0 0 0 0) × (tokens' ≡ replicate tokens 0) × (tree' ≡ replicate tree 0)
 
 -- what an exported call says by the number of the edition

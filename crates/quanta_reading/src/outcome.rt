@@ -3,10 +3,13 @@
 
 // An answer in document 01's numbers.
 ghost use Rattle.std.specs.Prelude.{◌≡◌, length, replicate};
-ghost use Rattle.quanta_reading.specs.Values.{accepted, refused, unknown_edition, values, Fits};
+ghost use Rattle.quanta_reading.specs.Values.{accepted, refused, failed, unknown_edition, values, FitsFailure, Fits};
 
-use crate::answer::Answer;
-use crate::finish::clear;
+use crate::answer::{Counts, Failure};
+use quanta_lexer::refusal::NO_ROOM;
+
+// The numbers of the refusals that neither lexer nor parser gives.
+const NO_TREE_ROOM: u32 = 23;
 
 const UNKNOWN_EDITION: u32 = 29;
 
@@ -28,12 +31,12 @@ fn refused(number: u32, start: u32, end: u32, wanted: u32, found: u32, need: u32
     ensures { result ≡ refused number start end wanted found need }
 {
     Outcome {
-        number: number,
-        start: start,
-        end: end,
-        wanted: wanted,
-        found: found,
-        need: need,
+        number,
+        start,
+        end,
+        wanted,
+        found,
+        need,
         tokens: 0,
         records: 0,
     }
@@ -49,27 +52,32 @@ fn accepted(tokens: u32, records: u32) -> Outcome
         wanted: 0,
         found: 0,
         need: 0,
-        tokens: tokens,
-        records: records,
+        tokens,
+        records,
+    }
+}
+
+// The numbers of a failure.
+fn numbers_of_failure(failure: Failure) -> Outcome
+    requires { FitsFailure failure }
+    ensures { result ≡ failed failure }
+{
+    match failure {
+        Failure::Lexical(e) => refused(e.number, e.start as u32, e.end as u32, 0, 0, 0),
+        Failure::NoTokenRoom(need) => refused(NO_ROOM, 0, 0, 0, 0, need as u32),
+        Failure::Syntax(e) => refused(e.number, e.span.start, e.span.end, e.wanted, e.found, 0),
+        Failure::NoTreeRoom(need) => refused(NO_TREE_ROOM, 0, 0, 0, 0, need as u32),
     }
 }
 
 // The numbers of an answer.
-pub fn numbers_of(answer: Answer) -> Outcome
+pub fn numbers_of(answer: Result<Counts, Failure>) -> Outcome
     requires { Fits answer }
     ensures { result ≡ values answer }
 {
     match answer {
-        Answer::Accepted { tokens, records } => accepted(tokens as u32, records as u32),
-        Answer::Lexical { number, start, end } => {
-            refused(number, start as u32, end as u32, 0, 0, 0)
-        }
-        Answer::NoTokenRoom(need) => refused(11, 0, 0, 0, 0, need as u32),
-        Answer::Syntax(e) => {
-            let span = e.span;
-            refused(e.number, span.start, span.end, e.wanted, e.found, 0)
-        }
-        Answer::NoTreeRoom(need) => refused(23, 0, 0, 0, 0, need as u32),
+        Ok(counts) => accepted(counts.tokens as u32, counts.records as u32),
+        Err(failure) => numbers_of_failure(failure),
     }
 }
 
@@ -79,7 +87,7 @@ pub fn unknown_edition(tokens: &mut [u32], tree: &mut [u32]) -> Outcome
         × (tokens.new ≡ replicate (length tokens.old) 0)
         × (tree.new ≡ replicate (length tree.old) 0) }
 {
-    clear(tokens);
-    clear(tree);
+    tokens.fill(0);
+    tree.fill(0);
     refused(UNKNOWN_EDITION, 0, 0, 0, 0, 0)
 }

@@ -1,7 +1,7 @@
 -- Where the tests of the code pass nothing is at fault; and the pass goes on past such places.
 use Prim.Native.Nat.{ℕ, zero, suc, ◌+◌, ◌-◌, ◌≤◌, ◌<◌}
-use mathlib.Core.Path.{◌≡◌, refl, ap, sym, ◌∙◌}
-use mathlib.Core.Bool.{Bool, true, false, not, cond, ◌&&◌, ◌||◌, false≢true}
+use mathlib.Core.Path.{◌≡◌, refl, ap, ◌∙◌}
+use mathlib.Core.Bool.{Bool, true, false, not, cond, ◌&&◌, ◌||◌}
 use mathlib.Core.List.{List}
 use native.Mathlib.Omega.{arith}
 use native.Mathlib.Numerals.{add-one}
@@ -10,19 +10,12 @@ use lib.ListN.{length, get_or}
 use lib.Dec.{eqb, ltb}
 use borrow.Author.Tests.{not-true, ltb-true, ltb-false}
 use Rattle.std.specs.Prelude.{Result, Ok, Err}
+use Rattle.std.proofs.lemmas.Bool.{and_parts, or_parts}
 use Rattle.quanta_source.specs.declared.source.Fault.{Fault}
 use Rattle.quanta_source.specs.declared.source.Fault.TheVariants.{CarriageReturn, Barred}
 use Rattle.quanta_source.specs.Source.{bare_at, barred_at, check_from, checked}
 use Rattle.quanta_source.specs.Tests.{is_lead, is_bare, is_barred, is_mark, Fine, FineIn}
 use Rattle.quanta_source.proofs.Bytes.{barred_by_bytes}
-
-both : (a b : Bool) → (a && b) ≡ true → (a ≡ true) × (b ≡ true)
-both true b h = (refl, h)
-both false b h = absurd (false≢true h)
-
-neither : (a b : Bool) → (a || b) ≡ false → (a ≡ false) × (b ≡ false)
-neither true b h = absurd (false≢true (sym h))
-neither false b h = (refl, h)
 
 module _ (s : List ℕ) where
   abbrev c : ℕ → ℕ
@@ -37,18 +30,18 @@ module _ (s : List ℕ) where
   pub quiet_fine : (i : ℕ) → not (is_bare (c i) (d i) || is_lead (c i)) ≡ true → Fine s i
   unfolding bare_at
   quiet_fine i h =
-      let p6 = neither (is_bare (c i) (d i)) (is_lead (c i)) (not-true _ h) in
-      let p5 = neither _ (eqb (c i) 0xEF) p6.1 in
-      let p4 = neither _ (eqb (c i) 0xE2) p5.0 in
-      let p3 = neither _ (eqb (c i) 0xE1) p4.0 in
-      let p2 = neither (eqb (c i) 0xC2) (eqb (c i) 0xD8) p3.0 in
+      let p6 = or_parts (is_bare (c i) (d i)) (is_lead (c i)) (not-true _ h) in
+      let p5 = or_parts _ (eqb (c i) 0xEF) p6.1 in
+      let p4 = or_parts _ (eqb (c i) 0xE2) p5.0 in
+      let p3 = or_parts _ (eqb (c i) 0xE1) p4.0 in
+      let p2 = or_parts (eqb (c i) 0xC2) (eqb (c i) 0xD8) p3.0 in
       (p6.0, rw (barred_by_bytes s i, p2.0, p2.1, p3.1, p4.1, p5.1))
 
   pub tests_fine : (i : ℕ) → not (is_bare (c i) (d i) || is_barred (c i) (d i) (e i) || is_mark (c i) (d i) (e i)) ≡ true → Fine s i
   unfolding bare_at
   tests_fine i h =
-      let p = neither (is_bare (c i) (d i) || is_barred (c i) (d i) (e i)) (is_mark (c i) (d i) (e i)) (not-true _ h) in
-      let q = neither (is_bare (c i) (d i)) (is_barred (c i) (d i) (e i)) p.0 in
+      let p = or_parts _ (is_mark (c i) (d i) (e i)) (not-true _ h) in
+      let q = or_parts (is_bare (c i) (d i)) (is_barred (c i) (d i) (e i)) p.0 in
       (q.0, rw (barred_by_bytes s i, q.1, p.1))
 
   pub fine_none : (a z : ℕ) → z ≤ a → FineIn s a z
@@ -64,9 +57,17 @@ module _ (s : List ℕ) where
   pub fine_one : (i : ℕ) → Fine s i → FineIn s i (i + 1)
   fine_one i h j l u = let same : i ≡ j = omega arith in rw same at h
 
-  -- a block whose bytes before i and the byte at i pass
-  pub fine_next : (a i : ℕ) (x y : Bool) → (x ≡ true → FineIn s a i) → (y ≡ true → Fine s i) → (x && y) ≡ true → FineIn s a (i + 1)
-  fine_next a i x y f g h = let p = both x y h in fine_join a i (i + 1) (f p.0) (fine_one i (g p.1))
+  -- a block whose k first bytes and the next pass
+  pub fine_next :
+      (a k : ℕ) (x y : Bool) →
+      (x ≡ true → FineIn s a (a + k)) →
+      (y ≡ true → Fine s (a + k)) →
+      (x && y) ≡ true →
+      FineIn s a (a + (k + 1))
+  fine_next a k x y f g h =
+      let p = and_parts x y h in
+      let there : a + k + 1 ≡ a + (k + 1) = omega arith in
+      rw there at (fine_join a (a + k) (a + k + 1) (f p.0) (fine_one (a + k) (g p.1)))
 
   -- the turns of the pass
   pub bare_stops : (n i : ℕ) → 1 ≤ n → bare_at s i ≡ true → check_from n s i ≡ Err (CarriageReturn i)
@@ -101,7 +102,8 @@ module _ (s : List ℕ) where
 
   found_later : (a e : ℕ) (r : Result Unit Fault) → Fine s a → Finds (a + 1) e r → Finds a e r
   found_later a e (Ok tt) f g = fine_join a (a + 1) e (fine_one a f) g
-  found_later a e (Err (CarriageReturn i)) f g = (omega (arith, g.0), g.1, g.2, fine_join a (a + 1) i (fine_one a f) g.3)
+  found_later a e (Err (CarriageReturn i)) f g =
+      (omega (arith, g.0), g.1, g.2, fine_join a (a + 1) i (fine_one a f) g.3)
   found_later a e (Err (Barred i)) f g = (omega (arith, g.0), g.1, g.2, g.3, fine_join a (a + 1) i (fine_one a f) g.4)
 
   finds : (n i e : ℕ) → i + n ≡ e → Finds i e (check_from n s i)
@@ -109,7 +111,11 @@ module _ (s : List ℕ) where
   finds zero i e h = λ j l u. absurd (omega arith)
   finds (suc n) i e h = at (bare_at s i) refl (barred_at s i) refl (finds n (i + 1) e (omega arith))
     where
-      at : (b : Bool) → bare_at s i ≡ b → (c : Bool) → barred_at s i ≡ c → Finds (i + 1) e (check_from n s (i + 1)) → Finds i e (cond b (Err (CarriageReturn i)) (cond c (Err (Barred i)) (check_from n s (i + 1))))
+      at :
+          (b : Bool) → bare_at s i ≡ b →
+          (c : Bool) → barred_at s i ≡ c →
+          Finds (i + 1) e (check_from n s (i + 1)) →
+          Finds i e (cond b (Err (CarriageReturn i)) (cond c (Err (Barred i)) (check_from n s (i + 1))))
       at true f c g rest = (omega arith, omega arith, f, λ j l u. absurd (omega arith))
       at false f true g rest = (omega arith, omega arith, f, g, λ j l u. absurd (omega arith))
       at false f false g rest = found_later i e (check_from n s (i + 1)) (f, g) rest

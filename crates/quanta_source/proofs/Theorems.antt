@@ -21,11 +21,17 @@ pub clean : (s : List ℕ) → checked s ≡ Ok tt → FineIn s 0 (length s)
 clean s e = rw e at (first s)
 
 -- a CR without LF stands where one is found, within the source, and nothing of it before
-pub carriage_return : (s : List ℕ) (i : ℕ) → checked s ≡ Err (CarriageReturn i) → (i < length s) × (bare_at s i ≡ true) × FineIn s 0 i
+pub carriage_return :
+    (s : List ℕ) (i : ℕ) →
+    checked s ≡ Err (CarriageReturn i) →
+    (i < length s) × (bare_at s i ≡ true) × FineIn s 0 i
 carriage_return s i e = let f = rw e at (first s) in (f.1, f.2, f.3)
 
 -- a barred character stands where one is found, within the source, and nothing of it before
-pub barred_character_lem : (s : List ℕ) (i : ℕ) → checked s ≡ Err (Barred i) → (i < length s) × (barred_at s i ≡ true) × FineIn s 0 i
+pub barred_character_lem :
+    (s : List ℕ) (i : ℕ) →
+    checked s ≡ Err (Barred i) →
+    (i < length s) × (barred_at s i ≡ true) × FineIn s 0 i
 barred_character_lem s i e = let f = rw e at (first s) in (f.1, f.3, f.4)
 
 -- FEFF then `1`, and `1` then FEFF

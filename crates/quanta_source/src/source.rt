@@ -63,9 +63,9 @@ fn quiet_block(src: &[u8], at: usize) -> bool
     ensures { result ≡ true → FineIn src.now at (at + 32) }
 {
     let mut none = true;
-    for i in at..at + 32 {
-        let c = src[i];
-        none &= !(is_bare(c, src[i + 1]) | is_lead(c));
+    for k in 0..32 {
+        let c = src[at + k];
+        none &= !(is_bare(c, src[at + k + 1]) | is_lead(c));
     }
     none
 }
@@ -76,10 +76,10 @@ fn clean_block(src: &[u8], at: usize) -> bool
     ensures { result ≡ true → FineIn src.now at (at + 32) }
 {
     let mut none = true;
-    for i in at..at + 32 {
-        let c = src[i];
-        let d = src[i + 1];
-        let e = src[i + 2];
+    for k in 0..32 {
+        let c = src[at + k];
+        let d = src[at + k + 1];
+        let e = src[at + k + 2];
         none &= !(is_bare(c, d) | is_barred(c, d, e) | is_mark(c, d, e));
     }
     none
@@ -114,7 +114,8 @@ fn barred_at(src: &[u8], i: usize) -> bool
 
 // Past offset 0, where FEFF is not barred, if nothing at fault stands there.
 fn past_first(src: &[u8]) -> usize
-    ensures { (result ≤ length src.now) × FineIn src.now 0 result }
+    ensures within { result ≤ length src.now }
+    ensures fine { FineIn src.now 0 result }
 {
     if src.is_empty() || bare_at(src, 0) || barred_at(src, 0) {
         return 0;
@@ -124,7 +125,8 @@ fn past_first(src: &[u8]) -> usize
 
 // Past the blocks at the front that are clean: what is left is shorter than a block, or a block with something at fault.
 fn skip_blocks(src: &[u8]) -> usize
-    ensures { (result ≤ length src.now) × FineIn src.now 0 result }
+    ensures within { result ≤ length src.now }
+    ensures fine { FineIn src.now 0 result }
 {
     let mut at = past_first(src);
     while 34 <= src.len() - at {

@@ -4,65 +4,12 @@ use mathlib.Core.Path.{◌≡◌, refl, ap, sym, ◌∙◌}
 use mathlib.Core.Bool.{Bool, true, false, cond}
 use mathlib.Core.List.{List, [], ◌∷◌, ◌++◌}
 use native.Mathlib.Omega.{arith}
-use native.Mathlib.Numerals.{add-one}
-use lib.ListN.{length, get_or, take, drop, length-take, length-drop, drop_of_length-le}
-use lib.Seq.{drop-cons, get_or-take, length-take-le, take-add}
+use lib.ListN.{length, get_or, take, drop, length-take, length-drop}
+use lib.Seq.{length-take-le, take-add}
+use Rattle.std.proofs.lemmas.List.{take_more}
 use lib.Dec.{eqb, leb}
 use borrow.Author.Tests.{eq-eqb, ne_eqb, le-leb, lt-leb, leb-true, leb-false}
 use Rattle.quanta_text.specs.Places.{LF, feeds_in, since_from, placed, place_of}
-
--- what is counted of the bytes before o when those before i are passed: f LFs, and n bytes since the last
-abbrev pub Counted : List ℕ → ℕ → ℕ → ℕ → ℕ → Type 0
-Counted s o i f n =
-    (i ≤ o) ×
-    (o ≤ length s) ×
-    (f ≤ i) ×
-    (n ≤ i) ×
-    (f + feeds_in (drop i (take o s)) ≡ feeds_in (take o s)) ×
-    (since_from n (drop i (take o s)) ≡ since_from 0 (take o s))
-
-module _ (s : List ℕ) (o i : ℕ) (h : i < o) where
-  next : o ≤ length s → drop i (take o s) ≡ get_or s i 0 ∷ drop (i + 1) (take o s)
-  next l =
-      let there : i < length (take o s) = rw (length-take-le o s l) h in
-      drop-cons (take o s) i 0 there ∙ rw (get_or-take o s i 0 h, add-one)
-
-  feeds_at : o ≤ length s → feeds_in (drop i (take o s)) ≡ cond (eqb (get_or s i 0) LF) 1 0 + feeds_in (drop (i + 1) (take o s))
-  unfolding feeds_in
-  feeds_at l = ap feeds_in (next l)
-
-  since_at : (n : ℕ) → o ≤ length s → since_from n (drop i (take o s)) ≡ since_from (cond (eqb (get_or s i 0) LF) 0 (n + 1)) (drop (i + 1) (take o s))
-  unfolding since_from
-  since_at n l = ap (since_from n) (next l)
-
-  -- the byte at i is a LF, or is none
-  module _ {f n f' n' : ℕ} (k : Counted s o i f n) where
-    pub counts_feed : get_or s i 0 ≡ LF → f' ≡ f + 1 → n' ≡ 0 → Counted s o (i + 1) f' n'
-    counts_feed e a b =
-        let lines = rw (eq-eqb (get_or s i 0) LF e) at (feeds_at k.1) in
-        let bytes = rw (eq-eqb (get_or s i 0) LF e) at (since_at n k.1) in
-        (omega arith, k.1, omega arith, omega arith, omega arith, rw b (sym bytes ∙ k.5))
-
-    pub counts_byte : (get_or s i 0 ≡ LF → ⊥) → f' ≡ f → n' ≡ n + 1 → Counted s o (i + 1) f' n'
-    counts_byte e a b =
-        let lines = rw (ne_eqb (get_or s i 0) LF e) at (feeds_at k.1) in
-        let bytes = rw (ne_eqb (get_or s i 0) LF e) at (since_at n k.1) in
-        (omega arith, k.1, omega arith, omega arith, omega arith, rw b (sym bytes ∙ k.5))
-
--- all bytes before o are passed
-pub counted : (s : List ℕ) (o i f n : ℕ) → o ≤ i → Counted s o i f n → placed (f + 1) (n + 1) ≡ place_of s o
-unfolding place_of feeds_in since_from
-counted s o i f n h k =
-    let past : length (take o s) ≤ i = rw (length-take-le o s k.1) h in
-    let none : drop i (take o s) ≡ [] = drop_of_length-le (take o s) past in
-    let lines : feeds_in (drop i (take o s)) ≡ 0 = ap feeds_in none in
-    let lines' : f ≡ feeds_in (take o s) = omega (arith, k.4) in
-    let bytes : n ≡ since_from 0 (take o s) = sym (ap (since_from n) none) ∙ k.5 in
-    rw (le-leb o (length s) k.1, ← lines', ← bytes)
-
-pub above : (s : List ℕ) (o : ℕ) → length s < o → placed 0 0 ≡ place_of s o
-unfolding place_of
-above s o h = rw (lt-leb o (length s) h)
 
 -- a text, and what follows it
 feeds_append : (l m : List ℕ) → feeds_in (l ++ m) ≡ feeds_in l + feeds_in m
@@ -74,6 +21,56 @@ since_append : (n : ℕ) (l m : List ℕ) → since_from n (l ++ m) ≡ since_fr
 unfolding since_from
 since_append n [] m = refl
 since_append n (c ∷ l) m = since_append (cond (eqb c LF) 0 (n + 1)) l m
+
+-- what is counted of the i bytes at the front: f LFs, and n bytes since the last
+pub record Counted (s : List ℕ) (i f n : ℕ) : Type 0 where
+  pub feeds : f ≡ feeds_in (take i s)
+  pub since : n ≡ since_from 0 (take i s)
+  pub few : f ≤ i
+  pub near : n ≤ i
+
+pub counted_none : (s : List ℕ) → Counted s 0 0 0
+unfolding feeds_in since_from
+counted_none s = record { feeds = refl; since = refl; few = omega arith; near = omega arith }
+
+-- the byte behind them: x says whether it is a LF
+module _ {s : List ℕ} {i f n c : ℕ} (k : Counted s i f n) (h : i < length s) (q : c ≡ get_or s i 0) where
+  lines : (x : Bool) → eqb c LF ≡ x → feeds_in (take (i + 1) s) ≡ feeds_in (take i s) + cond x 1 0
+  unfolding feeds_in
+  lines x e =
+      ap feeds_in (take_more s i 0 h) ∙ feeds_append (take i s) (get_or s i 0 ∷ []) ∙ rw (← q, e) (omega arith)
+
+  bytes : (x : Bool) → eqb c LF ≡ x → since_from 0 (take (i + 1) s) ≡ cond x 0 (since_from 0 (take i s) + 1)
+  unfolding since_from
+  bytes x e =
+      ap (since_from 0) (take_more s i 0 h) ∙ since_append 0 (take i s) (get_or s i 0 ∷ []) ∙ rw (← q, e)
+
+  pub counts_feed : {f' n' : ℕ} → c ≡ LF → f' ≡ f + 1 → n' ≡ 0 → Counted s (i + 1) f' n'
+  counts_feed e a b =
+      let l = lines true (eq-eqb c LF e) in
+      let m = bytes true (eq-eqb c LF e) in
+      record { feeds = omega (arith, l, k.feeds); since = b ∙ sym m; few = omega (arith, k.few); near = omega arith }
+
+  pub counts_byte : {f' n' : ℕ} → (c ≡ LF → ⊥) → f' ≡ f → n' ≡ n + 1 → Counted s (i + 1) f' n'
+  counts_byte e a b =
+      let l = lines false (ne_eqb c LF e) in
+      let m = bytes false (ne_eqb c LF e) in
+      record {
+        feeds = omega (arith, l, k.feeds);
+        since = omega (arith, m, k.since);
+        few = omega (arith, k.few);
+        near = omega (arith, k.near);
+      }
+
+-- all bytes before the offset
+pub counted :
+    (s : List ℕ) (o i f n : ℕ) → o ≤ length s → i ≡ o → Counted s i f n → placed (f + 1) (n + 1) ≡ place_of s o
+unfolding place_of
+counted s o i f n h e k = rw (le-leb o (length s) h, k.feeds, k.since, e)
+
+pub above : (s : List ℕ) (o : ℕ) → length s < o → placed 0 0 ≡ place_of s o
+unfolding place_of
+above s o h = rw (lt-leb o (length s) h)
 
 since_bound : (n : ℕ) (l : List ℕ) → since_from n l ≤ n + length l
 unfolding since_from

@@ -18,15 +18,13 @@ pub fn place(src: &[u8], offset: usize) -> LineColumn
     }
     let mut feeds = 0;
     let mut since = 0;
-    let mut i = 0;
-    while i < offset {
-        if src[i] == b'\n' {
+    for c in &src[..offset] {
+        if *c == b'\n' {
             feeds += 1;
             since = 0;
         } else {
             since += 1;
         }
-        i += 1;
     }
     LineColumn {
         line: feeds + 1,

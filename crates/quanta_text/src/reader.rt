@@ -20,5 +20,5 @@ pub fn token_text<'a>(reader: Reader<'a>, kind: u32, start: usize, end: usize) -
 pub fn text_of(src: &[u8], kind: u32, start: usize, end: usize) -> &[u8]
     ensures { result.now ≡ text_of src.now kind start end }
 {
-    token_text(Reader { src: src }, kind, start, end)
+    token_text(Reader { src }, kind, start, end)
 }

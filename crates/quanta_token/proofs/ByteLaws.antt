@@ -71,6 +71,12 @@ pub word_in : (c : ℕ) (k : ByteClass) → c < 256 → k ≡ class_of c → (k 
 word_in c k l e (inl w) = rw (sym (word_start_class c l) ∙ true_same the_type _ _ (sym e ∙ w))
 word_in c k l e (inr d) = rw (sym (digit_class c l) ∙ true_same the_type _ _ (sym e ∙ d), or-true)
 
-pub word_out : (c : ℕ) (k : ByteClass) → c < 256 → k ≡ class_of c → (k ≡ WordStart → ⊥) → (k ≡ Digit → ⊥) → false ≡ word_byte c
+pub word_out :
+    (c : ℕ) (k : ByteClass) →
+    c < 256 →
+    k ≡ class_of c →
+    (k ≡ WordStart → ⊥) →
+    (k ≡ Digit → ⊥) →
+    false ≡ word_byte c
 word_out c k l e w d =
     rw (sym (word_start_class c l) ∙ unlike WordStart c k e w, sym (digit_class c l) ∙ unlike Digit c k e d)

@@ -3,10 +3,11 @@
 
 // The classes of bytes, one chart of them, and runs of bytes.
 ghost use Rattle.std.specs.Prelude.{◌≡◌, ◌≤◌, length, get_or};
-ghost use Rattle.quanta_token.specs.Bytes.{digit, word_start, word_byte, blank, class_of, Chart, goes_on};
+ghost use Rattle.quanta_token.specs.Bytes.{digit, word_start, word_byte, blank, symbol, class_of, Chart, goes_on};
 ghost use Rattle.quanta_token.specs.Runs.{run_end};
 
 use std::array;
+use std::mem::size_of;
 
 // The byte at i, and 0 past the end.
 pub fn peek(src: &[u8], i: usize) -> u8
@@ -15,18 +16,36 @@ pub fn peek(src: &[u8], i: usize) -> u8
     if i < src.len() { src[i] } else { 0 }
 }
 
+// The tests have no branches, so that the 256 turns that fill a chart are compiled to wide instructions.
+
 // A letter or `_`.
 pub fn is_word_start(c: u8) -> bool
     ensures { result ≡ word_start c }
 {
-    matches!(c, b'a'..=b'z' | b'A'..=b'Z' | b'_')
+    ((b'a' <= c) & (c <= b'z')) | ((b'A' <= c) & (c <= b'Z')) | (c == b'_')
 }
 
 // A letter, `_` or a digit.
 pub fn is_word_byte(c: u8) -> bool
     ensures { result ≡ word_byte c }
 {
-    matches!(c, b'a'..=b'z' | b'A'..=b'Z' | b'_' | b'0'..=b'9')
+    ((b'a' <= c) & (c <= b'z'))
+        | ((b'A' <= c) & (c <= b'Z'))
+        | (c == b'_')
+        | ((b'0' <= c) & (c <= b'9'))
+}
+
+fn is_digit(c: u8) -> bool
+    ensures { result ≡ digit c }
+{
+    (b'0' <= c) & (c <= b'9')
+}
+
+// Space, tab, LF or CR.
+fn is_blank(c: u8) -> bool
+    ensures { result ≡ blank c }
+{
+    (c == b' ') | (c == b'\t') | (c == b'\n') | (c == b'\r')
 }
 
 // The classes: each byte has one.
@@ -41,37 +60,53 @@ pub enum ByteClass {
     Other,
 }
 
+// A byte that a symbol begins with.
+fn is_symbol(c: u8) -> bool
+    ensures { result ≡ symbol c }
+{
+    (c == b'{')
+        | (c == b'}')
+        | (c == b'(')
+        | (c == b')')
+        | (c == b',')
+        | (c == b';')
+        | (c == b':')
+        | (c == b'.')
+        | (c == b'=')
+        | (c == b'+')
+        | (c == b'-')
+        | (c == b'*')
+        | (c == b'/')
+        | (c == b'%')
+        | (c == b'<')
+        | (c == b'>')
+        | (c == b'!')
+        | (c == b'&')
+        | (c == b'|')
+}
+
+// So a chart has 256 bytes.
+const _: () = prove!(size_of::<ByteClass>() == 1);
+
 // A byte's class.
 #[tactic(auto, unfolding(crate::specs::Bytes::class_of))]
 fn class_of(c: u8) -> ByteClass
     ensures { result ≡ class_of c }
 {
-    match c {
-        b'a'..=b'z' | b'A'..=b'Z' | b'_' => ByteClass::WordStart,
-        b'0'..=b'9' => ByteClass::Digit,
-        b' ' | b'\t' | b'\n' | b'\r' => ByteClass::Blank,
-        b'{'
-        | b'}'
-        | b'('
-        | b')'
-        | b','
-        | b';'
-        | b':'
-        | b'.'
-        | b'='
-        | b'+'
-        | b'-'
-        | b'*'
-        | b'/'
-        | b'%'
-        | b'<'
-        | b'>'
-        | b'!'
-        | b'&'
-        | b'|' => ByteClass::Symbol,
-        b'"' => ByteClass::Quote,
-        b'@' => ByteClass::At,
-        _ => ByteClass::Other,
+    if is_word_start(c) {
+        ByteClass::WordStart
+    } else if is_digit(c) {
+        ByteClass::Digit
+    } else if is_blank(c) {
+        ByteClass::Blank
+    } else if is_symbol(c) {
+        ByteClass::Symbol
+    } else if c == b'"' {
+        ByteClass::Quote
+    } else if c == b'@' {
+        ByteClass::At
+    } else {
+        ByteClass::Other
     }
 }
 

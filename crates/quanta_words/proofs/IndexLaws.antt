@@ -8,6 +8,7 @@ use lib.ListN.{length, get_or, take, set, length-append}
 use Rattle.std.proofs.lemmas.List.{take_more_set, get_or_append_left}
 use Rattle.std.proofs.lemmas.List.Sorted.{searchable_from_sorted, All-permutation, IsPermutation-sym}
 use Rattle.std.proofs.lemmas.Map.Text.{is_eq-slice_cmp}
+use Rattle.std.proofs.lemmas.Map.Lookups.{exact_bytes}
 use lib.Seq.{get_or-append_seam}
 use lib.Dec.{ltb}
 use borrow.Author.Tests.{le-leb, lt-leb, ltb-true, ltb-false}
@@ -16,11 +17,10 @@ use Rattle.std.proofs.Common.{Ordering, Less, Greater}
 use Rattle.std.specs.Result.{is_ok}
 use Rattle.std.specs.Ordering.{nat_cmp, is_eq}
 use Rattle.std.specs.Cmp.Lexicographic.{slice_cmp, nat_list_cmp_total, nat_list_eq_equiv}
-use Rattle.std.specs.List.Sorted.{IsBinarySearchResult, IsPartitionPoint, IsPermutation}
-use Rattle.quanta_token.specs.Text.{same}
+use Rattle.std.specs.List.Sorted.{IsSearchInRange, IsBinarySearchResult, IsPartitionPoint, IsPermutation}
 use Rattle.quanta_words.specs.Words.{after_at, word_at, held_in}
-use Rattle.quanta_words.specs.Index.{entry, Lists, Covers}
-use Rattle.quanta_words.proofs.WordLaws.{held_from, same_eq, held_next}
+use Rattle.quanta_words.specs.Index.{entry, Ordered, Found, Unfound, Lists}
+use Rattle.quanta_words.proofs.WordLaws.{held_from, not_same, held_next}
 
 -- a place with a whole record, and one without
 pub entry_in : (t : List ℕ) (i : ℕ) → after_at t i ≤ length t → entry t i ≡ word_at t i
@@ -56,35 +56,37 @@ listed_more (suc m) t f n i b h k g = (
   omega arith,
   λ w z.
       let y = all_front (λ (j : ℕ). entry t j ≢ w) (take n f) i (rw (take_more_set f n i k) at z) in
-      g w y.0 ∙ held_next m t i w h (other w (word_at t i) (λ e. y.1 (entry_in t i h ∙ sym e))),
+      g w y.0 ∙ held_next m t i w h (not_same w (word_at t i) (λ e. y.1 (entry_in t i h ∙ sym e))),
 )
-  where
-    other : (a b : List ℕ) → a ≢ b → same a b ≡ false
-    other a b h = at (same a b) refl
-      where
-        at : (x : Bool) → same a b ≡ x → x ≡ false
-        at true e = absurd (h (same_eq a b e))
-        at false e = refl
 
 -- the same places in another order
 pub lists_again : (t f g : List ℕ) → IsPermutation f g → Lists t f → Lists t g
 lists_again t f g p h w none = h w (All-permutation (λ i. entry t i ≢ w) g f (IsPermutation-sym f g p) none)
 
--- a search that finds no place says that the word is not in the table
-pub not_found :
+-- what a search by word answers
+pub found :
+    (t f w : List ℕ) (r : Result ℕ ℕ) →
+    IsSearchInRange r (length f) →
+    IsBinarySearchResult (λ i. slice_cmp nat_cmp (entry t i) w) f r →
+    is_ok r ≡ true →
+    Found t f w
+found t f w (Ok i) l g h = (i, l, exact_bytes _ _ (g 0))
+found t f w (Err i) l g h = absurd (false≢true h)
+
+pub unfound :
     (t f w : List ℕ) (r : Result ℕ ℕ) →
     IsBinarySearchResult (λ i. slice_cmp nat_cmp (entry t i) w) f r →
-    Covers t f →
+    Ordered t f →
     is_ok r ≡ false →
-    held_in t w ≡ false
-not_found t f w (Ok i) g c h = absurd (false≢true (sym h))
-not_found t f w (Err i) g c h = c.lists w (λ k d l e. at k d l e (ltb k i) refl)
+    Unfound t f w
+unfound t f w (Ok i) g c h = absurd (false≢true (sym h))
+unfound t f w (Err i) g c h = λ k d l e. at k d l e (ltb k i) refl
   where
     by_word : ℕ → Ordering
     by_word j = slice_cmp nat_cmp (entry t j) w
 
     cut : IsPartitionPoint (λ j. by_word j ≡ Less) (λ j. by_word j ≡ Greater) f i
-    cut = g (searchable_from_sorted nat_list_cmp_total (entry t) f w c.sorted)
+    cut = g (searchable_from_sorted nat_list_cmp_total (entry t) f w c)
 
     level : (x : List ℕ) (o : Ordering) → x ≡ w → slice_cmp nat_cmp x w ≡ o → is_eq o ≡ true
     level x o e q =

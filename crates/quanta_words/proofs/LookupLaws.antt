@@ -1,22 +1,12 @@
 -- The laws of the sieve.
 use Prim.Native.Nat.{ℕ, zero, suc, ◌+◌, ◌≤◌, ◌<◌}
-use mathlib.Core.Path.{◌≡◌, refl, ap, sym, ◌∙◌}
-use mathlib.Core.Bool.{Bool, true, false}
+use mathlib.Core.Path.{◌≡◌, ap, sym, ◌∙◌}
 use mathlib.Core.List.{List, [], ◌∷◌}
 use native.Mathlib.Omega.{arith}
 use lib.ListN.{length, get_or, set}
-use Rattle.quanta_token.specs.Text.{same}
 use Rattle.quanta_words.specs.Words.{after_at, word_at, held_in}
 use Rattle.quanta_words.specs.Lookup.{key_of}
-use Rattle.quanta_words.proofs.WordLaws.{held_from, same_eq, held_next}
-
--- words with other keys are not the same
-other_key : (a b : List ℕ) → (key_of a ≡ key_of b → ⊥) → same a b ≡ false
-other_key a b h = at (same a b) refl
-  where
-    at : (x : Bool) → same a b ≡ x → x ≡ false
-    at true e = absurd (h (ap key_of (same_eq a b e)))
-    at false e = refl
+use Rattle.quanta_words.proofs.WordLaws.{held_from, not_same, held_next}
 
 -- where a 1 was stored, the entry is not 0; elsewhere it is what it was
 stored : (f : List ℕ) (k j : ℕ) → k < length f → get_or (set f k 1) j 0 ≡ 0 → (j ≡ k → ⊥) × (get_or f j 0 ≡ 0)
@@ -41,4 +31,10 @@ pub sift_more :
     Sifted t f n i →
     (m : ℕ) × (length t < m + after_at t i) × Sifted t (set f k 1) m (after_at t i)
 sift_more zero t f i k b l h e q g = absurd (omega arith)
-sift_more (suc n) t f i k b l h e q g = (n, omega arith, λ w z. let r = stored f k (key_of w) q z in g w r.1 ∙ held_next n t i w h (other_key w (word_at t i) (λ x. r.0 (x ∙ sym e))))
+sift_more (suc n) t f i k b l h e q g = (
+  n,
+  omega arith,
+  λ w z.
+      let r = stored f k (key_of w) q z in
+      g w r.1 ∙ held_next n t i w h (not_same w (word_at t i) (λ x. r.0 (ap key_of x ∙ sym e))),
+)

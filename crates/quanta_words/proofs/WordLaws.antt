@@ -11,6 +11,7 @@ use lib.Dec.{eqb, leb, ltb}
 use borrow.Author.Tests.{lt-ltb, le-leb, lt-leb, leb-true, leb-false, ltb-false, eqb-true}
 use Rattle.quanta_token.specs.Bytes.{word_start, word_byte}
 use Rattle.std.specs.Prelude.{Option, Some, None, MatchOption, bytes_eq}
+use Rattle.std.proofs.lemmas.Bool.{and_parts, false_from_ne_true}
 use Rattle.std.specs.List.{slice_range, list_all}
 use Rattle.std.specs.Slice.{IsGetRangeResult}
 use denote.Ref.{Bor}
@@ -171,15 +172,14 @@ pub same_of :
     same w (word_at t i) ≡ x
 same_of w h g f k = ap (same w) (sym g.is) ∙ sym (same_is w h) ∙ sym f ∙ k
 
-one_of : (a b : Bool) → (a && b) ≡ true → (a ≡ true) × (b ≡ true)
-one_of true b h = (refl, h)
-one_of false b h = absurd (false≢true h)
-
 pub same_eq : (a b : List ℕ) → same a b ≡ true → a ≡ b
 unfolding same
 same_eq [] [] h = refl
 same_eq [] (y ∷ ys) h = absurd (false≢true h)
 same_eq (x ∷ xs) [] h = absurd (false≢true h)
 same_eq (x ∷ xs) (y ∷ ys) h =
-    let p = one_of (eqb x y) (same xs ys) h in
+    let p = and_parts (eqb x y) (same xs ys) h in
     rw (eqb-true x y p.0, same_eq xs ys p.1)
+
+pub not_same : (a b : List ℕ) → (a ≡ b → ⊥) → same a b ≡ false
+not_same a b h = false_from_ne_true (same a b) (λ e. h (same_eq a b e))

@@ -1,7 +1,6 @@
 // An index of the word table: the places of its records, sorted by their words, so that a word is looked for in few steps.
-ghost use Rattle.std.specs.Prelude.{◌≡◌, false, ◌≤◌, ◌<◌, length, take};
-ghost use Rattle.quanta_words.specs.Words.{held_in};
-ghost use Rattle.quanta_words.specs.Index.{entry, Lists, Covers, Indexed};
+ghost use Rattle.std.specs.Prelude.{◌≡◌, true, false, ◌≤◌, ◌<◌, length, take};
+ghost use Rattle.quanta_words.specs.Index.{entry, Ordered, Found, Unfound, Lists, Indexed};
 
 use crate::words::word_at;
 
@@ -15,9 +14,10 @@ fn entry(table: &[u8], place: u16) -> &[u8]
     }
 }
 
-// Whether the word is found through the index.
+// Whether the word is at a place of the index, which is in order.
 pub fn probe(table: &[u8], index: &[u16], word: &[u8]) -> bool
-    ensures { Covers table.now index.now → result ≡ false → held_in table.now word.now ≡ false }
+    ensures found { result ≡ true → Found table.now index.now word.now }
+    ensures unfound { Ordered table.now index.now → result ≡ false → Unfound table.now index.now word.now }
 {
     index
         .binary_search_by(|place| entry(table, *place).cmp(&word))
@@ -26,7 +26,9 @@ pub fn probe(table: &[u8], index: &[u16], word: &[u8]) -> bool
 
 // The places of the records, and how many there are; or 0 where there is no room for one.
 fn places(table: &[u8], index: &mut [u16]) -> usize
-    ensures { (result ≤ length index.old) × (length index.new ≡ length index.old) × (0 < result → Lists table.now (take result index.new)) }
+    ensures within { result ≤ length index.old }
+    ensures kept { length index.new ≡ length index.old }
+    ensures lists { 0 < result → Lists table.now (take result index.new) }
 {
     let mut n = 0;
     let mut i = 0;

@@ -9,7 +9,8 @@ use quanta_token::bytes::peek;
 
 // A word's place in the sieve. A word of one byte shares its place with no other word.
 fn key(word: &[u8]) -> usize
-    ensures { (result ≡ key_of word.now) × (result < 1280) }
+    ensures value { result ≡ key_of word.now }
+    ensures small { result < 1280 }
 {
     if word.len() == 1 {
         return 1024 + (peek(word, 0) as usize);

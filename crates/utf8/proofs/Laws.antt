@@ -1,6 +1,6 @@
 -- Laws of forms at a place of a text, and of taking sequence after sequence.
 use mathlib.Core.Path.{◌≡◌, refl, sym, ap, ◌∙◌}
-use mathlib.Core.Bool.{Bool, true, false, ◌&&◌, cond, false≢true}
+use mathlib.Core.Bool.{Bool, true, false, ◌&&◌, cond, false≢true, and_assoc, and-true}
 use mathlib.Core.List.{List, [], ◌∷◌, ◌++◌}
 use Prim.Native.Nat.{ℕ, zero, suc, ◌+◌, ◌≤◌, ◌<◌}
 use native.Mathlib.Omega.{arith}
@@ -10,20 +10,9 @@ use lib.ListN.{length, drop, get_or, length-drop, drop_of_length-le}
 use lib.Seq.{drop-cons, drop-drop}
 use borrow.Author.Tests.{lt-ltb, le-ltb, eq-eqb, ne_eqb, eqb-false}
 use Rattle.std.specs.Prelude.{Some, None}
+use Rattle.std.proofs.lemmas.Bool.{and_parts}
 use Rattle.utf8.specs.Utf8.{Octet, fits, form_len, char_len, utf8_char, bad_from}
 use Rattle.utf8.specs.Block.{ascii, every}
-
-pub both : (a b : Bool) → a && b ≡ true → (a ≡ true) × (b ≡ true)
-both true b h = (refl, h)
-both false b h = absurd (false≢true h)
-
-and_assoc : (a b c : Bool) → a && b && c ≡ a && (b && c)
-and_assoc true b c = refl
-and_assoc false b c = refl
-
-and_true : (a : Bool) → a && true ≡ a
-and_true true = refl
-and_true false = refl
 
 -- by both values of a test
 pub by_test : (P : Bool → Type 0) (b : Bool) → (b ≡ true → P true) → (b ≡ false → P false) → P b
@@ -33,7 +22,7 @@ by_test P false y n = n refl
 -- one byte, at a place
 pub octet_in : (o : Octet) (s : List ℕ) (i : ℕ) → i < length s → (leb o.low (get_or s i 0) && leb (get_or s i 0) o.high) ≡ fits (o ∷ []) (drop i s)
 unfolding fits
-octet_in o s i h = rw (drop-cons s i 0 h) (sym (and_true _))
+octet_in o s i h = rw (drop-cons s i 0 h) (sym (and-true _))
 
 pub octet_past : (o : Octet) (s : List ℕ) (i : ℕ) → length s ≤ i → false ≡ fits (o ∷ []) (drop i s)
 unfolding fits
@@ -103,7 +92,9 @@ pub fits_inside : (f : List Octet) (s : List ℕ) → fits f s ≡ true → leng
 unfolding fits
 fits_inside [] s h = omega arith
 fits_inside (o ∷ f) [] h = absurd (false≢true h)
-fits_inside (o ∷ f) (c ∷ s) h = let k = fits_inside f s (both (leb o.low c && leb c o.high) (fits f s) h).1 in omega arith
+fits_inside (o ∷ f) (c ∷ s) h =
+    let k = fits_inside f s (and_parts (leb o.low c && leb c o.high) (fits f s) h).1 in
+    omega arith
 
 form_inside : (fs : List (List Octet)) (s : List ℕ) → form_len fs s ≤ length s
 unfolding form_len
@@ -131,7 +122,9 @@ module _ (s : List ℕ) where
   enough (suc n) zero i g h = past (suc n) i (omega arith)
   enough (suc n) (suc m) i g h =
       ap (λ f. cond (ltb i (length s)) f None)
-      (by_test (λ b. cond b (Some i) (bad_from n s (i + char_len s i)) ≡ cond b (Some i) (bad_from m s (i + char_len s i))) (eqb (char_len s i) 0)
+      (by_test
+      (λ b. cond b (Some i) (bad_from n s (i + char_len s i)) ≡ cond b (Some i) (bad_from m s (i + char_len s i)))
+      (eqb (char_len s i) 0)
       (λ y. refl)
       (λ e. let z : char_len s i ≡ 0 → ⊥ = eqb-false (char_len s i) 0 e in enough n m (i + char_len s i) (omega arith) (omega arith)))
 
@@ -150,7 +143,7 @@ module _ (s : List ℕ) where
   unfolding every
   past_ascii zero n i g h e = ap (bad_from n s) (omega arith)
   past_ascii (suc k) n i g h e =
-      let b = both (every ascii k s i) (ascii (get_or s (i + k) 0)) e in
+      let b = and_parts (every ascii k s i) (ascii (get_or s (i + k) 0)) e in
       let one : char_len s (i + k) ≡ 1 = ascii_one s (i + k) (omega arith) b.1 in
       past_ascii k n i (omega arith) h b.0
       ∙ next n (i + k) (omega arith) (omega arith) (λ z. omega arith)

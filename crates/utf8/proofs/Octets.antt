@@ -1,6 +1,6 @@
 -- Laws of texts as sequence after sequence, and what they say of `bad_from`.
 use mathlib.Core.Path.{◌≡◌, refl, sym, ap, subst, ◌∙◌}
-use mathlib.Core.Bool.{Bool, true, false, ◌&&◌, ◌||◌, cond, false≢true}
+use mathlib.Core.Bool.{Bool, true, false, ◌&&◌, ◌||◌, cond, false≢true, and-false}
 use mathlib.Core.List.{List, [], ◌∷◌, ◌++◌, append_assoc, Memᴰ}
 use Prim.Native.Nat.{ℕ, zero, suc, ◌+◌, ◌-◌, ◌≤◌, ◌<◌}
 use native.Mathlib.Nat.{sub_self}
@@ -10,8 +10,9 @@ use lib.ListN.{length, take, drop, length-append, length-drop, take-append-drop,
 use lib.Seq.{take-add, drop-drop, drop-append_seam, length-take-le}
 use borrow.Author.Tests.{ltb-true, ltb-false, eqb-true, eqb-false, leb-true, lt-leb}
 use Rattle.std.specs.Prelude.{Some, None}
+use Rattle.std.proofs.lemmas.Bool.{and_parts}
 use Rattle.utf8.specs.Utf8.{Octet, fits, form_len, utf8_char, char_len, bad_from, Char, Octets, none, more}
-use Rattle.utf8.proofs.Laws.{both, by_test, fits_inside, next}
+use Rattle.utf8.proofs.Laws.{by_test, fits_inside, next}
 
 -- the form that fits, where one does
 pub record Fitting (fs : List (List Octet)) (s : List ℕ) : Type 0 where
@@ -43,7 +44,7 @@ unfolding fits
 fits_more [] w r h = refl
 fits_more (o ∷ f) [] r h = absurd (false≢true h)
 fits_more (o ∷ f) (c ∷ w) r h =
-    let p = both (leb o.low c && leb c o.high) (fits f w) h in
+    let p = and_parts (leb o.low c && leb c o.high) (fits f w) h in
     rw (p.0, fits_more f w r p.1)
 
 -- no form is empty, and no two begin with the same byte
@@ -61,10 +62,6 @@ split : (a b : Bool) → T (a && b) → T a × T b
 split true b h = (tt, h)
 split false b h = absurd h
 
-and_false : (a : Bool) → a && false ≡ false
-and_false true = refl
-and_false false = refl
-
 yes : (b : Bool) → T b → b ≡ true
 yes true h = refl
 yes false h = absurd h
@@ -73,7 +70,9 @@ yes false h = absurd h
 other_range : (o p : Octet) (c : ℕ) → T (ltb o.high p.low || ltb p.high o.low) → p.low ≤ c → c ≤ p.high → leb o.low c && leb c o.high ≡ false
 other_range o p c h l u =
     by_test (λ b. ltb o.high p.low ≡ b → T (b || ltb p.high o.low) → leb o.low c && leb c o.high ≡ false) (ltb o.high p.low)
-    (λ y e g. let k : o.high < c = omega (arith, ltb-true o.high p.low e) in rw (lt-leb c o.high k) (and_false (leb o.low c)))
+    (λ y e g.
+    let k : o.high < c = omega (arith, ltb-true o.high p.low e) in
+    rw (lt-leb c o.high k) (and-false (leb o.low c)))
     (λ n e g. let k : c < o.low = omega (arith, ltb-true p.high o.low (yes (ltb p.high o.low) g)) in rw (lt-leb o.low c k))
     refl
     h
@@ -87,7 +86,7 @@ not_before o f ((p ∷ q) ∷ fs) s {g} k (Memᴰ.head e) h = here s (subst (λ 
   here : (s : List ℕ) → fits (p ∷ q) s ≡ true → fits (o ∷ f) s ≡ false
   here [] h = refl
   here (c ∷ s) h =
-      let b = both (leb p.low c) (leb c p.high) (both (leb p.low c && leb c p.high) (fits q s) h).0 in
+      let b = and_parts (leb p.low c) (leb c p.high) (and_parts (leb p.low c && leb c p.high) (fits q s) h).0 in
       rw (other_range o p c (split (ltb o.high p.low || ltb p.high o.low) (clear o fs) k).0 (leb-true _ _ b.0) (leb-true _ _ b.1))
 not_before o f ((p ∷ q) ∷ fs) s k (Memᴰ.tail m) h =
     not_before o f fs s (split (ltb o.high p.low || ltb p.high o.low) (clear o fs) k).1 m h
@@ -145,9 +144,12 @@ pub rest : (n : ℕ) (s : List ℕ) (i : ℕ) → length s ≤ i + n → bad_fro
 unfolding bad_from
 rest zero s i h e = rw (drop_of_length-le s {i = i} (omega arith)) none
 rest (suc n) s i h e =
-    by_test (λ b. ltb i (length s) ≡ b → cond b (cond (eqb (char_len s i) 0) (Some i) (bad_from n s (i + char_len s i))) None ≡ None → Octets (drop i s)) (ltb i (length s))
+    let later = bad_from n s (i + char_len s i) in
+    by_test
+    (λ b. ltb i (length s) ≡ b → cond b (cond (eqb (char_len s i) 0) (Some i) later) None ≡ None → Octets (drop i s))
+    (ltb i (length s))
     (λ y l g.
-    by_test (λ b. eqb (char_len s i) 0 ≡ b → cond b (Some i) (bad_from n s (i + char_len s i)) ≡ None → Octets (drop i s)) (eqb (char_len s i) 0)
+    by_test (λ b. eqb (char_len s i) 0 ≡ b → cond b (Some i) later ≡ None → Octets (drop i s)) (eqb (char_len s i) 0)
     (λ _ z k. absurd (let no : ◌≡◌ {A = ℕ} 0 1 = cc in omega arith))
     (λ _ z k.
     let q : char_len s i ≡ 0 → ⊥ = eqb-false (char_len s i) 0 z in
@@ -167,9 +169,12 @@ pub upto : (n : ℕ) (s : List ℕ) (i j : ℕ) → bad_from n s i ≡ Some j �
 unfolding bad_from
 upto zero s i j e = absurd (let no : ◌≡◌ {A = ℕ} 0 1 = cc in omega arith)
 upto (suc n) s i j e =
-    by_test (λ b. ltb i (length s) ≡ b → cond b (cond (eqb (char_len s i) 0) (Some i) (bad_from n s (i + char_len s i))) None ≡ Some j → Upto s i j) (ltb i (length s))
+    let later = bad_from n s (i + char_len s i) in
+    by_test
+    (λ b. ltb i (length s) ≡ b → cond b (cond (eqb (char_len s i) 0) (Some i) later) None ≡ Some j → Upto s i j)
+    (ltb i (length s))
     (λ y l g.
-    by_test (λ b. eqb (char_len s i) 0 ≡ b → cond b (Some i) (bad_from n s (i + char_len s i)) ≡ Some j → Upto s i j) (eqb (char_len s i) 0)
+    by_test (λ b. eqb (char_len s i) 0 ≡ b → cond b (Some i) later ≡ Some j → Upto s i j) (eqb (char_len s i) 0)
     (λ _ z k.
     let here : i ≡ j = cc in
     let q : char_len s i ≡ 0 = eqb-true (char_len s i) 0 z in

@@ -15,12 +15,14 @@ pub loop-c-preserved : goal.loop-c-preserved
 loop-c-preserved c =
     let a = c.args in
     let k = c.loop-c.c-index in
-    let inside : k < a.i + 32 - a.i = omega (arith, c.loop-c-test.true, length-take (a.i + 32 - a.i) (drop a.i a.s.now)) in
+    let long = length-take (a.i + 32 - a.i) (drop a.i a.s.now) in
+    let inside : k < a.i + 32 - a.i = omega (arith, c.loop-c-test.true, long) in
     every_next _ ascii _ _ c.loop-c.invariant
     (ap ascii (get_or-take (a.i + 32 - a.i) (drop a.i a.s.now) k 0 inside ∙ get_or-drop a.i a.s.now k 0))
 
 pub returns : goal.returns
 returns c =
     let a = c.args in
-    let all : c.loop-c.c-index ≡ 32 = omega (arith, length-take (a.i + 32 - a.i) (drop a.i a.s.now), length-drop a.i a.s.now) in
+    let long = length-take (a.i + 32 - a.i) (drop a.i a.s.now) in
+    let all : c.loop-c.c-index ≡ 32 = omega (arith, long, length-drop a.i a.s.now) in
     c.loop-c.invariant ∙ ap (λ n. every ascii n a.s.now a.i) all

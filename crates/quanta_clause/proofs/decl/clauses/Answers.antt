@@ -1,18 +1,23 @@
+-- `quanta_clause::decl::clauses` meets its contract: the answers, goal by goal.
+-- Assumes nothing.
 use mathlib.Core.Path.{refl, sym, ◌∙◌}
 use native.Mathlib.Omega.{arith}
-use Rattle.grammar.specs.Records.{fresh}
+use Rattle.quanta_token.specs.declared.edition.Edition.{Edition}
 use Rattle.quanta_token.specs.declared.edition.Edition.TheVariants.{One}
 use Rattle.quanta_grammar.specs.Refine.{text}
-use Rattle.quanta_cursor.specs.Tokens.{tok_at}
 use Rattle.quanta_cursor.proofs.Places.{ready_small}
-use Rattle.quanta_cursor.proofs.Meeting.{failed, took_of, failed_of, took_all, failed_all}
+use Rattle.quanta_cursor.proofs.Meeting.{failed_of}
 use Rattle.quanta_cursor.proofs.Lists.{clauses_run}
-use Rattle.quanta_cursor.proofs.Listing.{run_begun, runs_bad, runs_on, runs_less}
-use Rattle.quanta_cursor.proofs.WordLists.{names_law, list_begun, list_ends, comma_past, list_bad, list_on, list_less}
-use Rattle.quanta_clause.proofs.Clauses.{names_past, behind, names_none, inside_ready, inside_word, names_bad, names_met}
-use Rattle.quanta_clause.proofs.Turns.{is_name, is_names, is_expr, names_start, name_start, expr_start, after_start, no_start, Turn, turned, clauses_end}
+use Rattle.quanta_cursor.proofs.Listing.{run_begun, runs_on, runs_less}
+use Rattle.quanta_clause.proofs.Clauses.{names_past, names_none, names_begun, names_comma, names_bad, names_on}
+use Rattle.quanta_clause.proofs.Clauses.{names_less, names_met}
+use Rattle.quanta_clause.proofs.Turns.{is_name, is_names, is_expr, names_start, name_start, expr_start, after_start}
+use Rattle.quanta_clause.proofs.Turns.{Turn, turned, refused, clauses_end}
 use Rattle.quanta_clause.proofs.decl.clauses.Goals as goal
-use Rattle.quanta_clause.proofs.decl.clauses.Goals.{in-24, in-28, in-29+in-Err, in-29+in-Ok+then-peek-ne-COMMA, in-31}
+use Rattle.quanta_clause.proofs.decl.clauses.Goals.{in-24+in_ok-clause-in-24 as after_way}
+use Rattle.quanta_clause.proofs.decl.clauses.Goals.{in-28+in_ok-clause-in-28 as name_way}
+use Rattle.quanta_clause.proofs.decl.clauses.Goals.{in-29+in_ok-first-in-29+then-peek-ne-COMMA+in_ok-clause-in-29 as names_way}
+use Rattle.quanta_clause.proofs.decl.clauses.Goals.{in-31+in_ok-clause-in-31 as expr_way}
 
 pub clauses-init : goal.clauses-init
 clauses-init c = λ e. run_begun clauses_run c.args.allowance c.requires
@@ -20,31 +25,27 @@ clauses-init c = λ e. run_begun clauses_run c.args.allowance c.requires
 pub peek-requires : goal.peek-requires
 peek-requires c = (c.clauses.invariant One).ready.inside
 
-pub after_clause-clause-requires : goal.after_clause-clause-requires
-after_clause-clause-requires c = ((c.clauses.invariant One).ready, sym c.peek.ensures ∙ c.in-24.is)
-
-pub name_clause-clause-requires : goal.name_clause-clause-requires
-name_clause-clause-requires c = ((c.clauses.invariant One).ready, is_name c.peek.ensures (omega arith) (omega arith))
-
+-- the list of names
 pub bump-requires : goal.bump-requires
 bump-requires c = ready_small (c.clauses.invariant One).ready
 
 pub first_name-requires : goal.first_name-requires
 first_name-requires c =
-    let g = (c.clauses.invariant One).ready in
+    names_past c.bump.ensures (c.clauses.invariant One).ready (is_names c.peek.ensures (omega arith) (omega arith))
+
+pub returns-in_err-first-in-29 : goal.returns-in_err-first-in-29
+returns-in_err-first-in-29 c = λ e.
+    let src = text e c.args.src.now in
     let w = is_names c.peek.ensures (omega arith) (omega arith) in
-    names_past (text One c.args.src.now) c.args.tokens.now c.args.allowance g w c.bump.ensures
+    let v = c.clauses.invariant e in
+    let start = names_start src c.args.tokens.now c.clauses.at.0 w in
+    refused c.from_residual-in_err-first-in-29.ensures.1 c.requires v start
+    (names_none c.bump.ensures v.ready w c.first_name.ensures c.in_err-first-in-29.was src c.args.allowance)
 
 pub names-init : goal.names-init
 names-init c =
-    let ws = c.args.tokens.now in
-    let a = c.args.allowance in
-    let src = text One c.args.src.now in
-    let g = (c.clauses.invariant One).ready in
     let w = is_names c.peek.ensures (omega arith) (omega arith) in
-    let r = inside_ready src ws a g w c.bump.ensures c.first_name.ensures c.in-Ok.is in
-    let m = inside_word src ws a g w c.bump.ensures c.first_name.ensures c.in-Ok.is in
-    list_begun names_law r m refl
+    names_begun c.bump.ensures (c.clauses.invariant One).ready w c.first_name.ensures c.in_ok-first-in-29.was
 
 pub peek-requires-in-names : goal.peek-requires-in-names
 peek-requires-in-names c = (c.names.invariant 0).ready.inside
@@ -54,31 +55,22 @@ bump-requires-in-names c = ready_small (c.names.invariant 0).ready
 
 pub expect_ident-requires : goal.expect_ident-requires
 expect_ident-requires c =
-    let ws = c.args.tokens.now in
-    let a = c.args.allowance in
-    let src = text One c.args.src.now in
     let g = (c.clauses.invariant One).ready in
     let w = is_names c.peek.ensures (omega arith) (omega arith) in
-    let r = inside_ready src ws a g w c.bump.ensures c.first_name.ensures c.in-Ok.is in
-    let m = inside_word src ws a g w c.bump.ensures c.first_name.ensures c.in-Ok.is in
     let comma = sym c.peek-in-names.ensures ∙ c.if-peek-ne-COMMA.false in
-    comma_past names_law r m refl c.names.invariant comma c.bump-in-names.ensures
+    names_comma c.bump.ensures g w c.first_name.ensures c.in_ok-first-in-29.was c.names.invariant comma
+    c.bump-in-names.ensures
 
-pub returns-in-Err-expect_ident : goal.returns-in-Err-expect_ident
-returns-in-Err-expect_ident c = λ e.
-    let ws = c.args.tokens.now in
-    let a = c.args.allowance in
+pub returns-in_err-name-in-29 : goal.returns-in_err-name-in-29
+returns-in_err-name-in-29 c = λ e.
     let src = text e c.args.src.now in
-    let g = (c.clauses.invariant One).ready in
     let w = is_names c.peek.ensures (omega arith) (omega arith) in
-    let r = inside_ready src ws a g w c.bump.ensures c.first_name.ensures c.in-Ok.is in
-    let m = inside_word src ws a g w c.bump.ensures c.first_name.ensures c.in-Ok.is in
+    let v = c.clauses.invariant e in
     let comma = sym c.peek-in-names.ensures ∙ c.if-peek-ne-COMMA.false in
-    let b = behind src ws a g w c.bump.ensures in
-    let bad = list_bad names_law r m refl c.names.invariant comma c.bump-in-names.ensures c.expect_ident.ensures
-    c.in-Err-expect_ident.is src (tok_at src ws c.clauses.at.0) a b in
-    let none = names_bad src ws a g w c.bump.ensures c.first_name.ensures c.in-Ok.is bad in
-    failed_all (runs_bad clauses_run a c.requires (c.clauses.invariant e) (names_start src ws c.clauses.at.0 w) fresh none)
+    let start = names_start src c.args.tokens.now c.clauses.at.0 w in
+    refused c.from_residual-in_err-name-in-29.ensures.1 c.requires v start
+    (names_bad c.bump.ensures v.ready w c.first_name.ensures c.in_ok-first-in-29.was c.names.invariant comma
+    c.bump-in-names.ensures c.expect_ident.ensures c.in_err-name-in-29.was src c.args.allowance)
 
 pub overflow_add-names : goal.overflow_add-names
 overflow_add-names c =
@@ -87,73 +79,93 @@ overflow_add-names c =
 
 pub names-smaller : goal.names-smaller
 names-smaller c =
-    let ws = c.args.tokens.now in
-    let a = c.args.allowance in
-    let src = text One c.args.src.now in
     let g = (c.clauses.invariant One).ready in
     let w = is_names c.peek.ensures (omega arith) (omega arith) in
-    let r = inside_ready src ws a g w c.bump.ensures c.first_name.ensures c.in-Ok.is in
-    let m = inside_word src ws a g w c.bump.ensures c.first_name.ensures c.in-Ok.is in
     let comma = sym c.peek-in-names.ensures ∙ c.if-peek-ne-COMMA.false in
-    let less = list_less names_law r m refl c.names.invariant comma c.bump-in-names.ensures c.expect_ident.ensures
-    c.in-Ok-expect_ident.is in
+    let less = names_less c.bump.ensures g w c.first_name.ensures c.in_ok-first-in-29.was c.names.invariant comma
+    c.bump-in-names.ensures c.expect_ident.ensures c.in_ok-name-in-29.was in
     omega (arith, (c.names.invariant 0).ready.inside, less)
 
 pub names-preserved : goal.names-preserved
 names-preserved c =
-    let ws = c.args.tokens.now in
-    let a = c.args.allowance in
-    let src = text One c.args.src.now in
     let g = (c.clauses.invariant One).ready in
     let w = is_names c.peek.ensures (omega arith) (omega arith) in
-    let r = inside_ready src ws a g w c.bump.ensures c.first_name.ensures c.in-Ok.is in
-    let m = inside_word src ws a g w c.bump.ensures c.first_name.ensures c.in-Ok.is in
     let comma = sym c.peek-in-names.ensures ∙ c.if-peek-ne-COMMA.false in
-    list_on names_law r m refl c.names.invariant comma c.bump-in-names.ensures c.expect_ident.ensures
-    c.in-Ok-expect_ident.is refl c.expect_ident.auto.tree
+    names_on c.bump.ensures g w c.first_name.ensures c.in_ok-first-in-29.was c.names.invariant comma
+    c.bump-in-names.ensures c.expect_ident.ensures c.in_ok-name-in-29.was c.expect_ident.auto.tree
 
 pub close_names-requires : goal.close_names-requires
 close_names-requires c = ((c.names.invariant 0).ready, (c.clauses.invariant One).ready.inside)
 
-pub expr_clause-clause-requires : goal.expr_clause-clause-requires
-expr_clause-clause-requires c = ((c.clauses.invariant One).ready, is_expr c.peek.ensures (omega arith) (omega arith))
+pub returns-in_err-clause-in-29 : goal.returns-in_err-clause-in-29
+returns-in_err-clause-in-29 c = λ e.
+    let src = text e c.args.src.now in
+    let w = is_names c.peek.ensures (omega arith) (omega arith) in
+    let v = c.clauses.invariant e in
+    let met = names_met c.bump.ensures v.ready w c.first_name.ensures c.in_ok-first-in-29.was c.names.invariant
+    (λ z. c.if-peek-ne-COMMA.true (c.peek-in-names.ensures ∙ z)) c.close_names.ensures src c.args.allowance in
+    let start = names_start src c.args.tokens.now c.clauses.at.0 w in
+    refused c.from_residual-in_err-clause-in-29.ensures.1 c.requires v start
+    (failed_of c.in_err-clause-in-29.was met)
 
-pub returns-in-Err-clause : goal.returns-in-Err-clause
-returns-in-Err-clause c = λ e.
+-- the other clauses
+pub name_clause-requires : goal.name_clause-requires
+name_clause-requires c = ((c.clauses.invariant One).ready, is_name c.peek.ensures (omega arith) (omega arith))
+
+pub returns-in_err-clause-in-28 : goal.returns-in_err-clause-in-28
+returns-in_err-clause-in-28 c = λ e.
+    let src = text e c.args.src.now in
+    let start = name_start src c.args.tokens.now c.clauses.at.0 (is_name c.peek.ensures (omega arith) (omega arith)) in
+    refused c.from_residual-in_err-clause-in-28.ensures.1 c.requires (c.clauses.invariant e) start
+    (failed_of c.in_err-clause-in-28.was (c.name_clause.ensures src c.args.allowance))
+
+pub expr_clause-requires : goal.expr_clause-requires
+expr_clause-requires c = ((c.clauses.invariant One).ready, is_expr c.peek.ensures (omega arith) (omega arith))
+
+pub returns-in_err-clause-in-31 : goal.returns-in_err-clause-in-31
+returns-in_err-clause-in-31 c = λ e.
+    let src = text e c.args.src.now in
+    let start = expr_start src c.args.tokens.now c.clauses.at.0 (is_expr c.peek.ensures (omega arith) (omega arith)) in
+    refused c.from_residual-in_err-clause-in-31.ensures.1 c.requires (c.clauses.invariant e) start
+    (failed_of c.in_err-clause-in-31.was (c.expr_clause.ensures src))
+
+pub after_clause-requires : goal.after_clause-requires
+after_clause-requires c = ((c.clauses.invariant One).ready, sym c.peek.ensures ∙ c.in-24.is)
+
+pub returns-in_err-clause-in-24 : goal.returns-in_err-clause-in-24
+returns-in_err-clause-in-24 c = λ e.
+    let src = text e c.args.src.now in
+    let start = after_start src c.args.tokens.now c.clauses.at.0 (sym c.peek.ensures ∙ c.in-24.is) in
+    refused c.from_residual.ensures.1 c.requires (c.clauses.invariant e) start
+    (failed_of c.in_err-clause-in-24.was (c.after_clause.ensures e))
+
+-- a clause was read
+turn : (c : goal.After-no-1) (e : Edition) → Turn (text e c.args.src.now) c.args.tokens.now c.args.allowance
+    c.clauses.at.0 c.clauses.no.0 c.clauses.tree c.match-peek.clause c.match-peek.tree
+turn c e =
     let ws = c.args.tokens.now in
     let a = c.args.allowance in
     let src = text e c.args.src.now in
     let i = c.clauses.at.0 in
     let v = c.peek.ensures in
-    let g = (c.clauses.invariant One).ready in
-    let turn : Turn src ws a i c.clauses.no.0 c.clauses.tree c.match-peek.clause c.match-peek.tree =
     elim c.match-peek.branch [
-      | in-24 w ↦
-          turned (after_start src ws i (sym v ∙ w.in-24.is)) w.clause-is w.tree-is
-          (w.after_clause-clause.ensures e) w.after_clause-clause.auto.tree
-      | in-28 w ↦
-          turned (name_start src ws i (is_name v (omega arith) (omega arith))) w.clause-is w.tree-is
-          (w.name_clause-clause.ensures src a) w.name_clause-clause.auto.tree
-      | in-29+in-Err w ↦
-          let k = is_names v (omega arith) (omega arith) in
-          let bad = names_none src ws a g k w.bump.ensures w.first_name.ensures w.in-Err.is in
-          turned (names_start src ws i k) w.clause-is w.tree-is (failed bad) w.first_name.auto.tree
-      | in-29+in-Ok+then-peek-ne-COMMA w ↦
-          let k = is_names v (omega arith) (omega arith) in
-          let r = inside_ready src ws a g k w.bump.ensures w.first_name.ensures w.in-Ok.is in
-          let m = inside_word src ws a g k w.bump.ensures w.first_name.ensures w.in-Ok.is in
-          let b = behind src ws a g k w.bump.ensures in
-          let list = list_ends names_law r m refl w.names.invariant
-          (λ z. w.if-peek-ne-COMMA.true (w.peek-in-names.ensures ∙ z)) refl refl refl src (tok_at src ws i) a b in
-          let met = names_met src ws a g k w.bump.ensures w.first_name.ensures w.in-Ok.is list w.close_names.ensures in
-          let long = w.close_names.auto.tree ∙ (w.names.invariant 0).long ∙ w.first_name.auto.tree in
-          turned (names_start src ws i k) w.clause-is w.tree-is met long
-      | in-31 w ↦
-          turned (expr_start src ws i (is_expr v (omega arith) (omega arith))) w.clause-is w.tree-is
-          (w.expr_clause-clause.ensures src) w.expr_clause-clause.auto.tree
-    ] in
-    let none = failed_of c.in-Err-clause.is turn.met in
-    failed_all (runs_bad clauses_run a c.requires (c.clauses.invariant e) turn.goes fresh none)
+      | after_way z ↦
+          turned (after_start src ws i (sym v ∙ z.in-24.is)) z.clause-is z.tree-is z.in_ok-clause-in-24.was
+          (z.after_clause.ensures e) z.after_clause.auto.tree
+      | name_way z ↦
+          turned (name_start src ws i (is_name v (omega arith) (omega arith))) z.clause-is z.tree-is
+          z.in_ok-clause-in-28.was (z.name_clause.ensures src a) z.name_clause.auto.tree
+      | names_way z ↦
+          let w = is_names v (omega arith) (omega arith) in
+          let g = (c.clauses.invariant e).ready in
+          let met = names_met z.bump.ensures g w z.first_name.ensures z.in_ok-first-in-29.was z.names.invariant
+          (λ y. z.if-peek-ne-COMMA.true (z.peek-in-names.ensures ∙ y)) z.close_names.ensures src a in
+          let long = z.close_names.auto.tree ∙ (z.names.invariant 0).long ∙ z.first_name.auto.tree in
+          turned (names_start src ws i w) z.clause-is z.tree-is z.in_ok-clause-in-29.was met long
+      | expr_way z ↦
+          turned (expr_start src ws i (is_expr v (omega arith) (omega arith))) z.clause-is z.tree-is
+          z.in_ok-clause-in-31.was (z.expr_clause.ensures src) z.expr_clause.auto.tree
+    ]
 
 pub overflow_add-count : goal.overflow_add-count
 overflow_add-count c =
@@ -162,90 +174,20 @@ overflow_add-count c =
 
 pub clauses-smaller : goal.clauses-smaller
 clauses-smaller c =
-    let ws = c.args.tokens.now in
-    let a = c.args.allowance in
-    let src = text One c.args.src.now in
-    let i = c.clauses.at.0 in
-    let v = c.peek.ensures in
-    let g = (c.clauses.invariant One).ready in
-    let turn : Turn src ws a i c.clauses.no.0 c.clauses.tree c.match-peek.clause c.match-peek.tree =
-    elim c.match-peek.branch [
-      | in-24 w ↦
-          turned (after_start src ws i (sym v ∙ w.in-24.is)) w.clause-is w.tree-is
-          (w.after_clause-clause.ensures One) w.after_clause-clause.auto.tree
-      | in-28 w ↦
-          turned (name_start src ws i (is_name v (omega arith) (omega arith))) w.clause-is w.tree-is
-          (w.name_clause-clause.ensures src a) w.name_clause-clause.auto.tree
-      | in-29+in-Err w ↦
-          let k = is_names v (omega arith) (omega arith) in
-          let bad = names_none src ws a g k w.bump.ensures w.first_name.ensures w.in-Err.is in
-          turned (names_start src ws i k) w.clause-is w.tree-is (failed bad) w.first_name.auto.tree
-      | in-29+in-Ok+then-peek-ne-COMMA w ↦
-          let k = is_names v (omega arith) (omega arith) in
-          let r = inside_ready src ws a g k w.bump.ensures w.first_name.ensures w.in-Ok.is in
-          let m = inside_word src ws a g k w.bump.ensures w.first_name.ensures w.in-Ok.is in
-          let b = behind src ws a g k w.bump.ensures in
-          let list = list_ends names_law r m refl w.names.invariant
-          (λ z. w.if-peek-ne-COMMA.true (w.peek-in-names.ensures ∙ z)) refl refl refl src (tok_at src ws i) a b in
-          let met = names_met src ws a g k w.bump.ensures w.first_name.ensures w.in-Ok.is list w.close_names.ensures in
-          let long = w.close_names.auto.tree ∙ (w.names.invariant 0).long ∙ w.first_name.auto.tree in
-          turned (names_start src ws i k) w.clause-is w.tree-is met long
-      | in-31 w ↦
-          turned (expr_start src ws i (is_expr v (omega arith) (omega arith))) w.clause-is w.tree-is
-          (w.expr_clause-clause.ensures src) w.expr_clause-clause.auto.tree
-    ] in
-    let took = took_of c.in-Ok-clause.is turn.met in
-    omega (arith, g.inside, runs_less clauses_run a c.requires (c.clauses.invariant One) turn.goes took)
+    let v = c.clauses.invariant One in
+    let one = turn c One in
+    omega (arith, v.ready.inside, runs_less clauses_run c.args.allowance c.requires v one.goes one.took)
 
 pub clauses-preserved : goal.clauses-preserved
 clauses-preserved c = λ e.
-    let ws = c.args.tokens.now in
-    let a = c.args.allowance in
-    let src = text e c.args.src.now in
-    let i = c.clauses.at.0 in
-    let v = c.peek.ensures in
-    let g = (c.clauses.invariant One).ready in
-    let turn : Turn src ws a i c.clauses.no.0 c.clauses.tree c.match-peek.clause c.match-peek.tree =
-    elim c.match-peek.branch [
-      | in-24 w ↦
-          turned (after_start src ws i (sym v ∙ w.in-24.is)) w.clause-is w.tree-is
-          (w.after_clause-clause.ensures e) w.after_clause-clause.auto.tree
-      | in-28 w ↦
-          turned (name_start src ws i (is_name v (omega arith) (omega arith))) w.clause-is w.tree-is
-          (w.name_clause-clause.ensures src a) w.name_clause-clause.auto.tree
-      | in-29+in-Err w ↦
-          let k = is_names v (omega arith) (omega arith) in
-          let bad = names_none src ws a g k w.bump.ensures w.first_name.ensures w.in-Err.is in
-          turned (names_start src ws i k) w.clause-is w.tree-is (failed bad) w.first_name.auto.tree
-      | in-29+in-Ok+then-peek-ne-COMMA w ↦
-          let k = is_names v (omega arith) (omega arith) in
-          let r = inside_ready src ws a g k w.bump.ensures w.first_name.ensures w.in-Ok.is in
-          let m = inside_word src ws a g k w.bump.ensures w.first_name.ensures w.in-Ok.is in
-          let b = behind src ws a g k w.bump.ensures in
-          let list = list_ends names_law r m refl w.names.invariant
-          (λ z. w.if-peek-ne-COMMA.true (w.peek-in-names.ensures ∙ z)) refl refl refl src (tok_at src ws i) a b in
-          let met = names_met src ws a g k w.bump.ensures w.first_name.ensures w.in-Ok.is list w.close_names.ensures in
-          let long = w.close_names.auto.tree ∙ (w.names.invariant 0).long ∙ w.first_name.auto.tree in
-          turned (names_start src ws i k) w.clause-is w.tree-is met long
-      | in-31 w ↦
-          turned (expr_start src ws i (is_expr v (omega arith) (omega arith))) w.clause-is w.tree-is
-          (w.expr_clause-clause.ensures src) w.expr_clause-clause.auto.tree
-    ] in
-    let took = took_of c.in-Ok-clause.is turn.met in
-    runs_on clauses_run a c.requires (c.clauses.invariant e) turn.goes took refl turn.long
+    let one = turn c e in
+    runs_on clauses_run c.args.allowance c.requires (c.clauses.invariant e) one.goes one.took refl one.long
 
+-- no clause begins
 pub returns-in_default : goal.returns-in_default
 returns-in_default c = λ e.
-    let i = c.clauses.at.0 in
-    let known = (c.requires.closed.known i (c.clauses.invariant One).ready.inside).1 in
-    let src = text e c.args.src.now in
-    let none = no_start src c.args.tokens.now i c.peek.ensures known (λ z. omega arith) (λ k a b e. omega arith) in
-    took_all (clauses_end (c.clauses.invariant e) none)
+    clauses_end c.requires (c.clauses.invariant e) c.peek.ensures (λ z. omega arith) (λ k a b e. omega arith)
 
 pub returns-in_default-2 : goal.returns-in_default-2
 returns-in_default-2 c = λ e.
-    let i = c.clauses.at.0 in
-    let known = (c.requires.closed.known i (c.clauses.invariant One).ready.inside).1 in
-    let src = text e c.args.src.now in
-    let none = no_start src c.args.tokens.now i c.peek.ensures known (λ z. omega arith) (λ k a b e. omega arith) in
-    took_all (clauses_end (c.clauses.invariant e) none)
+    clauses_end c.requires (c.clauses.invariant e) c.peek.ensures (λ z. omega arith) (λ k a b e. omega arith)

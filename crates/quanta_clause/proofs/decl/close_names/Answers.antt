@@ -7,4 +7,6 @@ use Rattle.quanta_clause.proofs.Clauses.{closes_kind}
 use Rattle.quanta_clause.proofs.decl.close_names.Goals as goal
 
 pub returns : goal.returns
-returns c = closes_as c.peek_span-span.ensures (closes_kind _ (c.clause_kind-kind.ensures ∙ ap clause_kind c.peek.ensures) c.close.ensures)
+returns c =
+    let kind = c.clause_kind.ensures ∙ ap clause_kind c.peek.ensures in
+    closes_as c.peek_span.ensures (closes_kind _ kind c.close.ensures)

@@ -6,4 +6,6 @@ use Rattle.quanta_clause.proofs.Clauses.{ends_made}
 use Rattle.quanta_clause.proofs.decl.end_clause.Goals as goal
 
 pub returns : goal.returns
-returns c = ends_made _ c.put.ensures.0 (c.clause_kind-kind.ensures ∙ ap clause_kind c.peek.ensures) c.peek_span.ensures c.join-span.ensures c.put.ensures.1
+returns c =
+    let kind = c.clause_kind-kind.ensures ∙ ap clause_kind c.peek.ensures in
+    ends_made _ c.put.ensures.0 kind c.peek_span.ensures c.join-span.ensures c.put.ensures.1

@@ -3,18 +3,24 @@
 use Rattle.quanta_grammar.specs.Productions.{expr}
 use Rattle.quanta_grammar.specs.Refine.{blank}
 use Rattle.quanta_cursor.proofs.Places.{took_ready}
-use Rattle.quanta_cursor.proofs.Meeting.{took, failed, took_of, failed_of}
+use Rattle.quanta_cursor.proofs.Meeting.{took, took_of, failed_of, fails}
 use Rattle.quanta_clause.proofs.Clauses.{expr_past, expr_bad, expr_took}
 use Rattle.quanta_clause.proofs.decl.expr_clause.Goals as goal
 
 pub expr-requires : goal.expr-requires
-expr-requires c = expr_past blank c.args.tokens.now 0 c.requires.0 c.requires.1 c.bump.ensures
+expr-requires c = expr_past c.bump.ensures c.requires
 
 pub end_clause-requires : goal.end_clause-requires
-end_clause-requires c = (c.requires.0.inside, took_ready blank expr c.args.allowance (expr_past blank c.args.tokens.now 0 c.requires.0 c.requires.1 c.bump.ensures) (took_of c.in-Ok.is (c.expr.ensures blank)))
+end_clause-requires c =
+    let value = took_of c.in_ok-value.was (c.expr.ensures blank) in
+    (c.requires.0.inside, took_ready blank expr c.args.allowance (expr_past c.bump.ensures c.requires) value)
 
-pub returns-in-Err : goal.returns-in-Err
-returns-in-Err c = λ src. failed (expr_bad src c.args.tokens.now c.args.allowance c.requires.0 c.requires.1 c.bump.ensures (failed_of c.in-Err.is (c.expr.ensures src)))
+pub returns-in_err-value : goal.returns-in_err-value
+returns-in_err-value c = λ src.
+    let bad = failed_of c.in_err-value.was (c.expr.ensures src) in
+    fails c.from_residual.ensures.1 (expr_bad src c.args.allowance c.bump.ensures c.requires bad)
 
-pub returns-in-Ok : goal.returns-in-Ok
-returns-in-Ok c = λ src. took (expr_took src c.args.tokens.now c.args.allowance c.requires.0 c.requires.1 c.bump.ensures (took_of c.in-Ok.is (c.expr.ensures src)) c.end_clause.ensures)
+pub returns : goal.returns
+returns c = λ src.
+    let value = took_of c.in_ok-value.was (c.expr.ensures src) in
+    took (expr_took src c.args.allowance c.bump.ensures c.requires value c.end_clause.ensures)

@@ -4,10 +4,10 @@ use Rattle.quanta_clause.proofs.Clauses.{first_unopened, first_ready, first_insi
 use Rattle.quanta_clause.proofs.decl.first_name.Goals as goal
 
 pub expect_ident-requires : goal.expect_ident-requires
-expect_ident-requires c = first_ready c.expect.ensures c.in-Ok.is c.requires
+expect_ident-requires c = first_ready c.expect.ensures c.in_ok-inside.was c.requires
 
-pub returns-in-Err : goal.returns-in-Err
-returns-in-Err c = first_unopened c.expect.ensures c.in-Err.is
+pub returns-in_err-inside : goal.returns-in_err-inside
+returns-in_err-inside c = first_unopened c.expect.ensures c.in_err-inside.was c.from_residual.ensures.1
 
-pub returns-in-Ok : goal.returns-in-Ok
-returns-in-Ok c = first_inside c.expect.ensures c.in-Ok.is c.expect_ident.ensures
+pub returns : goal.returns
+returns c = first_inside c.expect.ensures c.in_ok-inside.was c.expect_ident.ensures

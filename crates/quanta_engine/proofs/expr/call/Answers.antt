@@ -2,22 +2,9 @@
 -- Assumes nothing.
 use mathlib.Core.Path.{sym, ◌∙◌}
 use Rattle.quanta_token.specs.TokenKind.{code, LParen}
-use Rattle.quanta_cursor.proofs.Places.{ready_behind, ready_small}
 use Rattle.quanta_cursor.proofs.Meeting.{left_of, spent_of}
 use Rattle.quanta_engine.proofs.Suffixed.{spent_turn, empty_turn, call_turn}
 use Rattle.quanta_engine.proofs.expr.call.Goals as goal
-
-pub peek-requires : goal.peek-requires
-peek-requires c =
-    (ready_behind (code LParen) (λ u. u) c.requires.0 c.requires.2 c.bump-next.ensures).inside
-
-pub empty_call-requires : goal.empty_call-requires
-empty_call-requires c =
-    (ready_behind (code LParen) (λ u. u) c.requires.0 c.requires.2 c.bump-next.ensures, ready_small c.requires.0)
-
-pub push-requires : goal.push-requires
-push-requires c =
-    (ready_behind (code LParen) (λ u. u) c.requires.0 c.requires.2 c.bump-next.ensures).inside
 
 pub returns-then-peek-eq-RPAREN : goal.returns-then-peek-eq-RPAREN
 returns-then-peek-eq-RPAREN c = λ top.

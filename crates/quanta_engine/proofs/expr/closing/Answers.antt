@@ -1,11 +1,7 @@
 -- `quanta_engine::expr::closing` meets its contract.
 -- Assumes nothing.
-use native.Mathlib.Omega.{arith}
 use Rattle.quanta_engine.proofs.Shut.{close_turn}
 use Rattle.quanta_engine.proofs.expr.closing.Goals as goal
-
-pub overflow_add-result : goal.overflow_add-result
-overflow_add-result c = omega (arith, c.requires.complete.poised.allowance)
 
 pub returns-in-Err : goal.returns-in-Err
 returns-in-Err c =

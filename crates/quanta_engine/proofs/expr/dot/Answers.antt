@@ -1,16 +1,9 @@
 -- `quanta_engine::expr::dot` meets its contract: 20, no name, or a name.
 -- Assumes nothing.
-use mathlib.Core.Path.{refl}
 use Rattle.quanta_token.specs.TokenKind.{code, Dot}
-use Rattle.quanta_cursor.proofs.Places.{ready_behind}
 use Rattle.quanta_cursor.proofs.Meeting.{left_of, spent_of}
 use Rattle.quanta_engine.proofs.Suffixed.{spent_turn, dot_turn}
 use Rattle.quanta_engine.proofs.expr.dot.Goals as goal
-
-pub access-requires : goal.access-requires
-access-requires c =
-    let r = c.requires.0 in
-    ready_behind (code Dot) (λ u. u) r c.requires.2 refl
 
 pub returns-in-Err : goal.returns-in-Err
 returns-in-Err c = λ top.

@@ -1,14 +1,8 @@
 -- `quanta_engine::expr::link` meets its contract.
 -- Assumes nothing.
 use native.Mathlib.Omega.{arith}
-use Rattle.quanta_engine.specs.Frames.{here}
 use Rattle.quanta_engine.proofs.Linked.{linking_past, link_turn}
 use Rattle.quanta_engine.proofs.expr.link.Goals as goal
-
-pub flag_of-requires : goal.flag_of-requires
-flag_of-requires c =
-    let r = c.requires.poised.ready in
-    omega (arith, c.requires.kinded, (r.closed.known (here c.args.state) r.inside).1)
 
 pub push-requires : goal.push-requires
 push-requires c =

@@ -1,11 +1,7 @@
 -- `quanta_engine::expr::shut` meets its contract: each way through it cites one law.
 -- Assumes nothing.
-use native.Mathlib.Omega.{arith}
 use Rattle.quanta_engine.proofs.Shut.{whole_turn, parens_turn}
 use Rattle.quanta_engine.proofs.expr.shut.Goals as goal
-
-pub overflow_add-result : goal.overflow_add-result
-overflow_add-result c = omega (arith, c.requires.poised.allowance)
 
 pub returns-in-0 : goal.returns-in-0
 returns-in-0 c = whole_turn c.requires c.in-0.is

@@ -42,11 +42,11 @@ decreases-shift l = l.allowance * 16 + 6
 abbrev pub decreases-unary : goal.decreases-unary
 decreases-unary l = l.allowance * 16 + 3
 
-abbrev pub invariant-additive-loop-at : goal.invariant-additive-loop-at
-invariant-additive-loop-at l = Chain (pr.links pr.additive) l.tokens l.initial.left l.initial.depth l.initial.tree l.left l.depth l.tree
+abbrev pub invariant-additive-loop-left : goal.invariant-additive-loop-left
+invariant-additive-loop-left l = Chain (pr.links pr.additive) l.tokens l.initial.left l.initial.depth l.initial.tree l.left l.depth l.tree
 
-abbrev pub decreases-additive-loop-at : goal.decreases-additive-loop-at
-decreases-additive-loop-at l = l.depth
+abbrev pub decreases-additive-loop-left : goal.decreases-additive-loop-left
+decreases-additive-loop-left l = l.depth
 
 abbrev pub invariant-call_args-loop-at : goal.invariant-call_args-loop-at
 invariant-call_args-loop-at l = Rolling pr.more_args l.tokens l.allowance l.initial.at.0 l.initial.no.0 l.initial.count l.initial.tree l.at.0 l.no.0 l.count l.tree
@@ -54,44 +54,44 @@ invariant-call_args-loop-at l = Rolling pr.more_args l.tokens l.allowance l.init
 abbrev pub decreases-call_args-loop-at : goal.decreases-call_args-loop-at
 decreases-call_args-loop-at l = size l.tokens - l.at.0
 
-abbrev pub invariant-comparison-loop-at : goal.invariant-comparison-loop-at
-invariant-comparison-loop-at l = Chain (pr.links pr.comparison) l.tokens l.initial.left l.initial.depth l.initial.tree l.left l.depth l.tree
+abbrev pub invariant-comparison-loop-left : goal.invariant-comparison-loop-left
+invariant-comparison-loop-left l = Chain (pr.links pr.comparison) l.tokens l.initial.left l.initial.depth l.initial.tree l.left l.depth l.tree
 
-abbrev pub decreases-comparison-loop-at : goal.decreases-comparison-loop-at
-decreases-comparison-loop-at l = l.depth
+abbrev pub decreases-comparison-loop-left : goal.decreases-comparison-loop-left
+decreases-comparison-loop-left l = l.depth
 
-abbrev pub invariant-equality-loop-at : goal.invariant-equality-loop-at
-invariant-equality-loop-at l = Chain (pr.links pr.equality) l.tokens l.initial.left l.initial.depth l.initial.tree l.left l.depth l.tree
+abbrev pub invariant-equality-loop-left : goal.invariant-equality-loop-left
+invariant-equality-loop-left l = Chain (pr.links pr.equality) l.tokens l.initial.left l.initial.depth l.initial.tree l.left l.depth l.tree
 
-abbrev pub decreases-equality-loop-at : goal.decreases-equality-loop-at
-decreases-equality-loop-at l = l.depth
+abbrev pub decreases-equality-loop-left : goal.decreases-equality-loop-left
+decreases-equality-loop-left l = l.depth
 
-abbrev pub invariant-logic_and-loop-at : goal.invariant-logic_and-loop-at
-invariant-logic_and-loop-at l = Chain (pr.links pr.logic_and) l.tokens l.initial.left l.initial.depth l.initial.tree l.left l.depth l.tree
+abbrev pub invariant-logic_and-loop-left : goal.invariant-logic_and-loop-left
+invariant-logic_and-loop-left l = Chain (pr.links pr.logic_and) l.tokens l.initial.left l.initial.depth l.initial.tree l.left l.depth l.tree
 
-abbrev pub decreases-logic_and-loop-at : goal.decreases-logic_and-loop-at
-decreases-logic_and-loop-at l = l.depth
+abbrev pub decreases-logic_and-loop-left : goal.decreases-logic_and-loop-left
+decreases-logic_and-loop-left l = l.depth
 
-abbrev pub invariant-logic_or-loop-at : goal.invariant-logic_or-loop-at
-invariant-logic_or-loop-at l = Chain (pr.links pr.logic_or) l.tokens l.initial.left l.initial.depth l.initial.tree l.left l.depth l.tree
+abbrev pub invariant-logic_or-loop-left : goal.invariant-logic_or-loop-left
+invariant-logic_or-loop-left l = Chain (pr.links pr.logic_or) l.tokens l.initial.left l.initial.depth l.initial.tree l.left l.depth l.tree
 
-abbrev pub decreases-logic_or-loop-at : goal.decreases-logic_or-loop-at
-decreases-logic_or-loop-at l = l.depth
+abbrev pub decreases-logic_or-loop-left : goal.decreases-logic_or-loop-left
+decreases-logic_or-loop-left l = l.depth
 
-abbrev pub invariant-multiplicative-loop-at : goal.invariant-multiplicative-loop-at
-invariant-multiplicative-loop-at l = Chain (pr.links pr.multiplicative) l.tokens l.initial.left l.initial.depth l.initial.tree l.left l.depth l.tree
+abbrev pub invariant-multiplicative-loop-left : goal.invariant-multiplicative-loop-left
+invariant-multiplicative-loop-left l = Chain (pr.links pr.multiplicative) l.tokens l.initial.left l.initial.depth l.initial.tree l.left l.depth l.tree
 
-abbrev pub decreases-multiplicative-loop-at : goal.decreases-multiplicative-loop-at
-decreases-multiplicative-loop-at l = l.depth
+abbrev pub decreases-multiplicative-loop-left : goal.decreases-multiplicative-loop-left
+decreases-multiplicative-loop-left l = l.depth
 
-abbrev pub invariant-postfix-loop-e : goal.invariant-postfix-loop-e
-invariant-postfix-loop-e l = Chain pr.suffixes l.tokens l.initial.left l.initial.depth l.initial.tree l.left l.depth l.tree
+abbrev pub invariant-postfix-loop-depth : goal.invariant-postfix-loop-depth
+invariant-postfix-loop-depth l = Chain pr.suffixes l.tokens l.initial.left l.initial.depth l.initial.tree l.left l.depth l.tree
 
-abbrev pub decreases-postfix-loop-e : goal.decreases-postfix-loop-e
-decreases-postfix-loop-e l = l.depth
+abbrev pub decreases-postfix-loop-depth : goal.decreases-postfix-loop-depth
+decreases-postfix-loop-depth l = l.depth
 
-abbrev pub invariant-shift-loop-at : goal.invariant-shift-loop-at
-invariant-shift-loop-at l = Chain (pr.links pr.shift) l.tokens l.initial.left l.initial.depth l.initial.tree l.left l.depth l.tree
+abbrev pub invariant-shift-loop-left : goal.invariant-shift-loop-left
+invariant-shift-loop-left l = Chain (pr.links pr.shift) l.tokens l.initial.left l.initial.depth l.initial.tree l.left l.depth l.tree
 
-abbrev pub decreases-shift-loop-at : goal.decreases-shift-loop-at
-decreases-shift-loop-at l = l.depth
+abbrev pub decreases-shift-loop-left : goal.decreases-shift-loop-left
+decreases-shift-loop-left l = l.depth

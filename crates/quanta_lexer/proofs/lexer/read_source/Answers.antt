@@ -65,11 +65,13 @@ returns-in-Some c =
 
 pub overflow_add-i-in-Err-CarriageReturn : goal.overflow_add-i-in-Err-CarriageReturn
 overflow_add-i-in-Err-CarriageReturn c =
-    omega (arith, return_place c.args.src.now _ (sym c.check_source.ensures ∙ c.in-Err-CarriageReturn.is ∙ ap Err c.in-Err-CarriageReturn.field-0-is))
+    let at_fault = sym c.check_source.ensures ∙ c.in-Err-CarriageReturn.is ∙ ap Err c.in-Err-CarriageReturn.field-0-is in
+    omega (arith, return_place c.args.src.now _ at_fault)
 
 pub overflow_add-i-in-Err-Barred : goal.overflow_add-i-in-Err-Barred
 overflow_add-i-in-Err-Barred c =
-    omega (arith, barred_place c.args.src.now _ (sym c.check_source.ensures ∙ c.in-Err-Barred.is ∙ ap Err c.in-Err-Barred.field-0-is))
+    let at_fault = sym c.check_source.ensures ∙ c.in-Err-Barred.is ∙ ap Err c.in-Err-Barred.field-0-is in
+    omega (arith, barred_place c.args.src.now _ at_fault)
 
 pub returns-in-Err-CarriageReturn : goal.returns-in-Err-CarriageReturn
 unfolding well_or clean_or
@@ -77,10 +79,11 @@ returns-in-Err-CarriageReturn c =
     let short : length c.args.words.now ≤ table_limit = omega arith in
     let e = rw c.in-Err-CarriageReturn.field-0-is at c.refused-in-Err-CarriageReturn.ensures in
     let well = sym c.first_bad.ensures ∙ c.in_default.is in
+    let at_fault = sym c.check_source.ensures ∙ c.in-Err-CarriageReturn.is ∙ ap Err c.in-Err-CarriageReturn.field-0-is in
     let late =
     past-limits c.args.edition _ _ _ short c.check_words-bad.ensures c.if-bad-words.false
     c.if-src-gt-SOURCE_LIMIT.false in (
-      rw (late, well, sym c.check_source.ensures ∙ c.in-Err-CarriageReturn.is ∙ ap Err c.in-Err-CarriageReturn.field-0-is) e,
+      rw (late, well, at_fault) e,
       unwritten _ _ _ e,
     )
 
@@ -90,10 +93,11 @@ returns-in-Err-Barred c =
     let short : length c.args.words.now ≤ table_limit = omega arith in
     let e = rw c.in-Err-Barred.field-0-is at c.refused-in-Err-Barred.ensures in
     let well = sym c.first_bad.ensures ∙ c.in_default.is in
+    let at_fault = sym c.check_source.ensures ∙ c.in-Err-Barred.is ∙ ap Err c.in-Err-Barred.field-0-is in
     let late =
     past-limits c.args.edition _ _ _ short c.check_words-bad.ensures c.if-bad-words.false
     c.if-src-gt-SOURCE_LIMIT.false in (
-      rw (late, well, sym c.check_source.ensures ∙ c.in-Err-Barred.is ∙ ap Err c.in-Err-Barred.field-0-is) e,
+      rw (late, well, at_fault) e,
       unwritten _ _ _ e,
     )
 

@@ -1,4 +1,4 @@
--- `quanta_lexer::lexer::tokenize` meets its contract: what `read_source` answers, and 11 where there is too little room.
+-- What `read_source` answers, and 11 where there is too little room.
 -- Assumes nothing.
 use mathlib.Core.Path.{◌≡◌, ◌∙◌}
 use lib.ListN.{length}

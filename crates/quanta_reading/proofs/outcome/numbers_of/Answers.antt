@@ -6,35 +6,17 @@ use Rattle.quanta_reading.specs.Values.{values}
 use Rattle.quanta_reading.proofs.Numbers.{fits_of}
 use Rattle.quanta_reading.proofs.outcome.numbers_of.Goals as goal
 
-pub overflow_cast-tokens : goal.overflow_cast-tokens
-overflow_cast-tokens c = omega (arith, (fits_of c.in-Accepted.is c.requires).0)
+pub numbers_of_failure-requires : goal.numbers_of_failure-requires
+numbers_of_failure-requires c = record { by = fits_of c.in-Err.is c.requires }
 
-pub overflow_cast-records : goal.overflow_cast-records
-overflow_cast-records c = omega (arith, (fits_of c.in-Accepted.is c.requires).1)
+pub overflow_cast-counts : goal.overflow_cast-counts
+overflow_cast-counts c = omega (arith, (fits_of c.in-Ok.is c.requires).0)
 
-pub overflow_cast-start : goal.overflow_cast-start
-overflow_cast-start c = omega (arith, (fits_of c.in-Lexical.is c.requires).0)
+pub overflow_cast-counts-in-Ok : goal.overflow_cast-counts-in-Ok
+overflow_cast-counts-in-Ok c = omega (arith, (fits_of c.in-Ok.is c.requires).1)
 
-pub overflow_cast-end : goal.overflow_cast-end
-overflow_cast-end c = omega (arith, (fits_of c.in-Lexical.is c.requires).1)
+pub returns-in-Ok : goal.returns-in-Ok
+returns-in-Ok c = c.accepted.ensures ∙ ap values (sym c.in-Ok.is)
 
-pub overflow_cast-need : goal.overflow_cast-need
-overflow_cast-need c = omega (arith, fits_of c.in-NoTokenRoom.is c.requires)
-
-pub overflow_cast-need-in-NoTreeRoom : goal.overflow_cast-need-in-NoTreeRoom
-overflow_cast-need-in-NoTreeRoom c = omega (arith, fits_of c.in-NoTreeRoom.is c.requires)
-
-pub returns-in-Accepted : goal.returns-in-Accepted
-returns-in-Accepted c = c.accepted.ensures ∙ ap values (sym c.in-Accepted.is)
-
-pub returns-in-Lexical : goal.returns-in-Lexical
-returns-in-Lexical c = c.refused.ensures ∙ ap values (sym c.in-Lexical.is)
-
-pub returns-in-NoTokenRoom : goal.returns-in-NoTokenRoom
-returns-in-NoTokenRoom c = c.refused-in-NoTokenRoom.ensures ∙ ap values (sym c.in-NoTokenRoom.is)
-
-pub returns-in-Syntax : goal.returns-in-Syntax
-returns-in-Syntax c = c.refused-in-Syntax.ensures ∙ ap values (sym c.in-Syntax.is)
-
-pub returns-in-NoTreeRoom : goal.returns-in-NoTreeRoom
-returns-in-NoTreeRoom c = c.refused-in-NoTreeRoom.ensures ∙ ap values (sym c.in-NoTreeRoom.is)
+pub returns-in-Err : goal.returns-in-Err
+returns-in-Err c = c.numbers_of_failure.ensures ∙ ap values (sym c.in-Err.is)

@@ -4,7 +4,7 @@ use Rattle.quanta_source.proofs.Laws.{bare_stops, barred_stops, goes_on, at_end,
 use Rattle.quanta_source.proofs.source.check_source.Goals as goal
 
 pub loop-i-init : goal.loop-i-init
-loop-i-init c = goes_past _ _ c.skip_blocks-i.ensures.0 c.skip_blocks-i.ensures.1
+loop-i-init c = goes_past _ _ c.skip_blocks-i.ensures.within c.skip_blocks-i.ensures.fine
 
 pub returns-then-bare_at : goal.returns-then-bare_at
 returns-then-bare_at c =

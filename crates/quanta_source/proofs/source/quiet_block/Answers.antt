@@ -1,11 +1,13 @@
+use Prim.Native.Nat.{◌+◌}
 use native.Mathlib.Omega.{arith}
 use Rattle.quanta_source.proofs.Laws.{quiet_fine, fine_next, fine_none}
 use Rattle.quanta_source.proofs.source.quiet_block.Goals as goal
 
-pub loop-i-init : goal.loop-i-init
-loop-i-init c h = fine_none _ _ _ (omega arith)
+pub loop-k-init : goal.loop-k-init
+loop-k-init c h = fine_none _ _ _ (omega arith)
 
-pub loop-i-preserved : goal.loop-i-preserved
-loop-i-preserved c =
+pub loop-k-preserved : goal.loop-k-preserved
+loop-k-preserved c =
     let src = c.args.src.now in
-    fine_next src _ _ _ _ c.loop-i.invariant (λ h. quiet_fine src c.loop-i.i (rw (c.is_bare.ensures, c.is_lead.ensures) at h))
+    fine_next src _ _ _ _ c.loop-k.invariant
+    (λ h. quiet_fine src (c.args.at + c.loop-k.k) (rw (c.is_bare.ensures, c.is_lead.ensures) at h))

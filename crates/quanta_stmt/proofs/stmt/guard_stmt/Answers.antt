@@ -1,21 +1,26 @@
 -- `quanta_stmt::stmt::guard_stmt` meets its contract.
 -- Assumes nothing.
-use Rattle.quanta_token.specs.TokenKind.{code, Guard}
 use Rattle.quanta_grammar.specs.Productions.{expr}
-use Rattle.quanta_grammar.specs.Refine.{blank}
-use Rattle.quanta_cursor.proofs.Places.{ready_small, took_ready, ready_behind}
-use Rattle.quanta_cursor.proofs.Meeting.{took_of, failed_of, failed}
-use Rattle.quanta_stmt.proofs.Keywords.{guard_bad, guard_met}
+use Rattle.quanta_cursor.proofs.Places.{ready_small}
+use Rattle.quanta_cursor.proofs.Meeting.{took_of, failed_of, fails}
+use Rattle.quanta_stmt.proofs.Standing.{phrase_ready}
+use Rattle.quanta_stmt.proofs.Keywords.{guard_value, guard_bad, guard_met}
 use Rattle.quanta_stmt.proofs.stmt.guard_stmt.Goals as goal
 
 pub expr-requires : goal.expr-requires
-expr-requires c = (ready_behind (code Guard) (λ u. u) c.requires.0 c.requires.1 c.bump.ensures)
+expr-requires c = guard_value c.bump.ensures c.requires
 
 pub close_semi-requires : goal.close_semi-requires
-close_semi-requires c = (took_ready blank expr c.args.allowance (ready_behind (code Guard) (λ u. u) c.requires.0 c.requires.1 c.bump.ensures) (took_of c.in-Ok.is (c.expr.ensures blank)), ready_small c.requires.0)
+close_semi-requires c =
+    let behind = guard_value c.bump.ensures c.requires in
+    (phrase_ready behind expr c.args.allowance c.expr.ensures c.in_ok-value.was, ready_small c.requires.0)
 
-pub returns-in-Err : goal.returns-in-Err
-returns-in-Err c = λ src. failed (guard_bad src c.args.tokens.now c.args.at.0 c.args.allowance c.requires.0.inside c.bump.ensures c.requires.1 (failed_of c.in-Err.is (c.expr.ensures src)))
+pub returns-in_err-value : goal.returns-in_err-value
+returns-in_err-value c = λ src.
+    let bad = failed_of c.in_err-value.was (c.expr.ensures src) in
+    fails c.from_residual.ensures.1 (guard_bad src c.args.allowance c.bump.ensures c.requires bad)
 
-pub returns-in-Ok : goal.returns-in-Ok
-returns-in-Ok c = λ src. guard_met src c.args.tokens.now c.args.at.0 c.args.allowance c.requires.0.inside c.bump.ensures c.requires.1 _ (ready_behind (code Guard) (λ u. u) c.requires.0 c.requires.1 c.bump.ensures) (took_of c.in-Ok.is (c.expr.ensures src)) c.peek_span-span.ensures c.close_semi.ensures
+pub returns : goal.returns
+returns c = λ src.
+    let value = took_of c.in_ok-value.was (c.expr.ensures src) in
+    guard_met src c.args.allowance c.bump.ensures c.requires value c.peek_span.ensures c.close_semi.ensures

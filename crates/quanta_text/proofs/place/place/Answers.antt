@@ -1,23 +1,30 @@
+use Prim.Native.Nat.{◌<◌}
 use native.Mathlib.Omega.{arith}
-use mathlib.Core.Path.{refl}
-use Rattle.quanta_text.proofs.PlaceLaws.{counts_feed, counts_byte, counted, above}
+use lib.ListN.{length}
+use lib.Seq.{length-take-le, get_or-take}
+use Rattle.quanta_text.proofs.PlaceLaws.{counted_none, counts_feed, counts_byte, counted, above}
 use Rattle.quanta_text.proofs.place.place.Goals as goal
-use Rattle.quanta_text.proofs.place.place.Goals.{then-src-i-eq10, else-src-i-eq10}
+use Rattle.quanta_text.proofs.place.place.Goals.{then-c-eq10, else-c-eq10}
 
 pub returns-then-src-offset : goal.returns-then-src-offset
 returns-then-src-offset c = above _ _ c.if-src-offset.true
 
-pub loop-i-init : goal.loop-i-init
-loop-i-init c = (omega arith, c.if-src-offset.false, omega arith, omega arith, omega arith, refl)
+pub loop-c-init : goal.loop-c-init
+loop-c-init c = counted_none _
 
-pub loop-i-preserved : goal.loop-i-preserved
-loop-i-preserved c =
-    let more = c.loop-i-test.true in
-    let inv = c.loop-i.invariant in
-    elim c.if-src-i-eq10.branch [
-      | then-src-i-eq10 w ↦ counts_feed _ _ _ more inv w.if-src-i-eq10.true w.feeds-is w.since-is
-      | else-src-i-eq10 w ↦ counts_byte _ _ _ more inv w.if-src-i-eq10.false w.feeds-is w.since-is
+pub loop-c-preserved : goal.loop-c-preserved
+loop-c-preserved c =
+    let s = c.args.src.now in
+    let o = c.args.offset in
+    let before : c.loop-c.c-index < o = omega (arith, c.loop-c-test.true, length-take-le o s c.if-src-offset.false) in
+    let here = get_or-take o s c.loop-c.c-index 0 before in
+    let inside : c.loop-c.c-index < length s = omega arith in
+    elim c.if-c-eq10.branch [
+      | then-c-eq10 w ↦ counts_feed c.loop-c.invariant inside here w.if-c-eq10.true w.feeds-is w.since-is
+      | else-c-eq10 w ↦ counts_byte c.loop-c.invariant inside here w.if-c-eq10.false w.feeds-is w.since-is
     ]
 
 pub returns : goal.returns
-returns c = counted _ _ _ _ _ c.loop-i-test.false c.loop-i.invariant
+returns c =
+    let long = length-take-le c.args.offset c.args.src.now c.if-src-offset.false in
+    counted _ _ _ _ _ c.if-src-offset.false (omega (arith, long)) c.loop-c.invariant

@@ -1,9 +1,5 @@
-use Prim.Native.Nat.{◌-◌}
 use Rattle.quanta_text.proofs.PlaceLaws.{Counted}
 use Rattle.quanta_text.proofs.place.place.Given as goal
 
-abbrev pub invariant-loop-i : goal.invariant-loop-i
-invariant-loop-i l = Counted l.src l.offset l.i l.feeds l.since
-
-abbrev pub decreases-loop-i : goal.decreases-loop-i
-decreases-loop-i l = l.offset - l.i
+abbrev pub invariant-loop-c : goal.invariant-loop-c
+invariant-loop-c l = Counted l.src l.c-index l.feeds l.since

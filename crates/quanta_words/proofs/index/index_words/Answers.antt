@@ -30,6 +30,6 @@ returns c =
       omega (arith, long, length-append new (drop n old)),
       rw front (λ some. record {
         sorted = sorted;
-        lists = lists_again t _ new sort.permutation (found.2 (omega (arith, some, long)));
+        lists = lists_again t _ new sort.permutation (found.lists (omega (arith, some, long)));
       }),
     )

@@ -29,7 +29,7 @@ loop-word-preserved c =
       listed = rw here.next (next.0, next.1, next.2);
     }
 
-pub returns : goal.returns
-returns c =
-    let inv = c.loop-word.invariant in
-    (omega arith, inv.kept, λ h w z. inv.listed.2 w z ∙ held_stop inv.listed.0 _ _ w c.in_default.ensures)
+pub returns-clause-lists : goal.returns-clause-lists
+returns-clause-lists c h w z =
+    let listed = c.loop-word.invariant.listed in
+    listed.2 w z ∙ held_stop listed.0 _ _ w c.in_default.ensures

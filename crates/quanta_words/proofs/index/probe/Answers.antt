@@ -4,14 +4,18 @@ use Rattle.std.proofs.lemmas.Fn.{always_returns_same}
 use Rattle.std.specs.Ordering.{nat_cmp}
 use Rattle.std.specs.Cmp.Lexicographic.{slice_cmp}
 use Rattle.quanta_words.specs.Index.{entry}
-use Rattle.quanta_words.proofs.IndexLaws.{not_found, order_at}
+use Rattle.quanta_words.proofs.IndexLaws.{found, unfound, order_at}
 use Rattle.quanta_words.proofs.index.probe.Goals as goal
 
 pub returns : goal.returns
-returns c covers none =
+returns c =
     let t = c.args.table.now in
     let w = c.args.word.now in
-    let found =
-    c.binary_search_by.ensures.position (λ i. slice_cmp nat_cmp (entry t i) w)
+    let search_is = c.binary_search_by.ensures in
+    let answer =
+    search_is.position (λ i. slice_cmp nat_cmp (entry t i) w)
     (always_returns_same _ _ _ (λ a r f called. (search (rules, order_at), search rules))) in
-    not_found t _ w _ found covers (sym c.is_ok.ensures.value ∙ none)
+    record {
+      found = λ yes. found t _ w _ search_is.bound answer (sym c.is_ok.ensures.value ∙ yes);
+      unfound = λ order no. unfound t _ w _ answer order (sym c.is_ok.ensures.value ∙ no);
+    }

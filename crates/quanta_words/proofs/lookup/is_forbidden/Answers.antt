@@ -7,9 +7,10 @@ use Rattle.quanta_words.proofs.lookup.is_forbidden.Goals as goal
 
 pub returns-then-seen-key-eq0 : goal.returns-then-seen-key-eq0
 returns-then-seen-key-eq0 c =
-    sym (c.requires.sifts _ (ap (λ k. get_or c.args.seen.now k 0) (sym c.key.ensures.0) ∙ c.if-seen-key-eq0.true))
+    sym (c.requires.sifts _ (ap (λ k. get_or c.args.seen.now k 0) (sym c.key.ensures.value) ∙ c.if-seen-key-eq0.true))
 
 pub returns-then-not-probe : goal.returns-then-not-probe
 returns-then-not-probe c =
     let some : 0 < length c.args.index.now = grind (arith, common_steps) in
-    sym (c.probe.ensures (c.requires.indexed some) c.if-not-probe.true)
+    let covers = c.requires.indexed some in
+    sym (covers.lists _ (c.probe.ensures.unfound covers.sorted c.if-not-probe.true))

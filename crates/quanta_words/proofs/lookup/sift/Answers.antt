@@ -14,8 +14,8 @@ pub loop-word-preserved : goal.loop-word-preserved
 loop-word-preserved c =
     let inv = c.loop-word.invariant in
     let here = c.in-Some.ensures in
-    let at = c.key.ensures.0 ∙ ap key_of here.is in
-    let small : c.key.result < length c.loop-word.seen = omega (arith, inv.1, c.key.ensures.1) in
+    let at = c.key.ensures.value ∙ ap key_of here.is in
+    let small : c.key.result < length c.loop-word.seen = omega (arith, inv.1, c.key.ensures.small) in
     let next = sift_more inv.2.0 _ c.loop-word.seen c.loop-word.i _ inv.2.1 inv.0 here.inside at small inv.2.2 in
     rw here.next (here.inside, simp length-set inv.1, (next.0, next.1, next.2))
 

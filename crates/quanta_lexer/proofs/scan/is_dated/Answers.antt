@@ -1,6 +1,0 @@
--- `quanta_lexer::scan::is_dated` meets its contract.
--- Assumes nothing.
-use Rattle.quanta_lexer.proofs.scan.is_dated.Goals as goal
-
-pub returns-in-Two : goal.returns-in-Two
-returns-in-Two c = rw c.in-Two.is c.is_day.ensures
