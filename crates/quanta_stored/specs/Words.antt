@@ -1,6 +1,5 @@
 -- The sum of words, and what a buffer is spoilt with.
-use Rattle.std.specs.Prelude.{ℕ, ◌+◌, ◌*◌, ◌%◌, List}
-use Rattle.quanta_stored.specs.Runs.{fold}
+use Rattle.std.specs.Prelude.{ℕ, ◌+◌, ◌*◌, ◌%◌, List, fold}
 
 -- a sum with one word more
 abbrev pub added : ℕ → ℕ → ℕ

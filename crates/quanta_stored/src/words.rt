@@ -1,27 +1,17 @@
 // The sum of a buffer's words, and what a buffer holds before it is lent.
-ghost use Rattle.std.specs.Prelude.{◌≡◌, ◌<◌, length, replicate};
-ghost use Rattle.quanta_stored.specs.Words.{added, sum_of, RUBBISH};
+ghost use Rattle.std.specs.Prelude.{◌≡◌, length, replicate};
+ghost use Rattle.quanta_stored.specs.Words.{sum_of, RUBBISH};
 
 // No number of a record.
 const RUBBISH: u32 = 0xA5A5A5A5;
-
-// A sum with one word more.
-fn added(sum: u64, word: u32) -> u64
-    requires { sum < 4294967296 }
-    ensures { (result ≡ added sum word) × (result < 4294967296) }
-{
-    (65599 * sum + word as u64) % 4294967291
-}
 
 // Starts at 1, and each word w makes it (65,599 s + w) mod 4,294,967,291.
 pub fn sum(words: &[u32]) -> u64
     ensures { result ≡ sum_of words.now }
 {
     let mut sum: u64 = 1;
-    let mut i = 0;
-    while i < words.len() {
-        sum = added(sum, words[i]);
-        i += 1;
+    for word in words {
+        sum = (65599 * sum + u64::from(*word)) % 4294967291;
     }
     sum
 }
@@ -30,9 +20,5 @@ pub fn sum(words: &[u32]) -> u64
 pub fn spoil(words: &mut [u32])
     ensures { words.new ≡ replicate (length words.old) RUBBISH }
 {
-    let mut i = 0;
-    while i < words.len() {
-        words[i] = RUBBISH;
-        i += 1;
-    }
+    words.fill(RUBBISH);
 }

@@ -1,30 +1,19 @@
 -- Both are digits.
 -- Assumes nothing.
 use Prim.Native.Nat.{◌+◌, ◌*◌}
-use Rattle.quanta_stored.proofs.Laws.{digits_le, digit_in, byte_of}
-use native.Mathlib.Omega.{arith}
+use Rattle.std.specs.Option.{is_some}
+use Rattle.std.proofs.Common.{arith, ap, sym, ◌∙◌}
+use Rattle.quanta_stored.proofs.Laws.{digit_in, byte_of}
 use Rattle.quanta_stored.proofs.line.byte.Goals as goal
 
-pub overflow_mul-j : goal.overflow_mul-j
-overflow_mul-j c = omega (arith, digits_le c.args.part.now)
+pub unwrap-high-requires : goal.unwrap-high-requires
+unwrap-high-requires c = ap is_some c.digit.ensures.value ∙ digit_in c.args.part.now (2 * c.args.j) (omega arith)
 
-pub bounds-part-j : goal.bounds-part-j
-bounds-part-j c = omega (arith, digits_le c.args.part.now)
-
-pub overflow_mul-j-2 : goal.overflow_mul-j-2
-overflow_mul-j-2 c = omega (arith, digits_le c.args.part.now)
-
-pub overflow_add-j : goal.overflow_add-j
-overflow_add-j c = omega (arith, digits_le c.args.part.now)
-
-pub bounds-part-j-2 : goal.bounds-part-j-2
-bounds-part-j-2 c = omega (arith, digits_le c.args.part.now)
-
-pub overflow_cast-result : goal.overflow_cast-result
-overflow_cast-result c =
-    let high = digit_in c.args.part.now (2 * c.args.j) (omega arith) in
-    let low = digit_in c.args.part.now (2 * c.args.j + 1) (omega arith) in
-    omega (arith, c.digit.ensures.0, c.digit-2.ensures.0)
+pub unwrap-low-requires : goal.unwrap-low-requires
+unwrap-low-requires c = ap is_some c.digit-2.ensures.value ∙ digit_in c.args.part.now (2 * c.args.j + 1) (omega arith)
 
 pub returns : goal.returns
-returns c = byte_of _ _ _ _ c.digit.ensures.0 c.digit-2.ensures.0
+returns c =
+    let high = sym c.digit.ensures.value ∙ c.unwrap-high.ensures in
+    let low = sym c.digit-2.ensures.value ∙ c.unwrap-low.ensures in
+    byte_of _ _ _ _ high low

@@ -1,25 +1,18 @@
-use Prim.Native.Nat.{ℕ}
-use mathlib.Core.Bool.{not}
-use mathlib.Core.Path.{ap}
-use lib.Dec.{eqb}
-use borrow.Author.Tests.{eq-eqb, ne_eqb}
-use Rattle.quanta_stored.proofs.Laws.{run_start, run_more, run_stop, run_end}
+-- The place of the first b, or the end.
+-- Assumes nothing.
+use Rattle.std.proofs.Common.{ℕ, rules, eqb, not, arith}
+use Rattle.std.proofs.lemmas.Iterator.{YieldsList-from_slice}
+use Rattle.std.proofs.lemmas.Iterator.Search.{position_from_yields_List}
+use Rattle.std.proofs.lemmas.List.Sums.{prefix_len-le-length}
+use borrow.Author.Tests.{tests}
+use Rattle.quanta_stored.proofs.Laws.{first}
 use Rattle.quanta_stored.proofs.line.find.Goals as goal
-
-pub loop-i-init : goal.loop-i-init
-loop-i-init c = run_start (λ (x : ℕ). not (eqb x c.args.b)) c.args.s.now
-
-pub returns-then-s-i : goal.returns-then-s-i
-returns-then-s-i c =
-    let inv = c.loop-i.invariant in
-    (run_stop (λ (x : ℕ). not (eqb x c.args.b)) _ _ c.loop-i-test.true (ap not (eq-eqb _ _ c.if-s-i.true)) inv, inv.0)
-
-pub loop-i-preserved : goal.loop-i-preserved
-loop-i-preserved c =
-    let inv = c.loop-i.invariant in
-    run_more (λ (x : ℕ). not (eqb x c.args.b)) _ _ c.loop-i-test.true (ap not (ne_eqb _ _ c.if-s-i.false)) inv
 
 pub returns : goal.returns
 returns c =
-    let inv = c.loop-i.invariant in
-    (run_end (λ (x : ℕ). not (eqb x c.args.b)) _ _ c.loop-i-test.false inv, inv.0)
+    let items = YieldsList-from_slice c.args.s.now c.iter.ensures.rest in
+    let ran = c.position.ensures.ran in
+    let found =
+    position_from_yields_List (λ (x : ℕ). eqb x c.args.b) _ _ _ ran items (λ x b q k. search (rules, tests)) in
+    let at = first (λ (x : ℕ). eqb x c.args.b) _ _ _ found c.unwrap_or.ensures in
+    (at, omega (arith, prefix_len-le-length (λ (x : ℕ). not (eqb x c.args.b)) c.args.s.now))

@@ -1,26 +1,22 @@
--- Each way out has its case.
+-- An even number of digits, taken so many times.
 -- Assumes nothing.
-use Rattle.quanta_stored.proofs.Laws.{size_long, size_none, size_empty, size_odd, size_some, size_fits}
-use mathlib.Core.Path.{sym, ◌∙◌}
-use native.Mathlib.Omega.{arith}
+use Rattle.std.specs.Option.{option_map}
+use Rattle.std.proofs.Common.{ℕ, ◌*◌, ◌/◌, arith, sym, ap, ◌∙◌}
+use Rattle.quanta_stored.proofs.Laws.{size_even, size_fits}
 use Rattle.quanta_stored.proofs.line.size.Goals as goal
 
-pub returns-then-part-gt65535 : goal.returns-then-part-gt65535
-returns-then-part-gt65535 c = size_long _ c.if-part-gt65535.true
-
-pub returns-then-is_none : goal.returns-then-is_none
-returns-then-is_none c = size_none _ c.if-part-gt65535.false (sym c.is_none.ensures ∙ c.if-is_none.true)
-
-pub returns-then-n-eq0 : goal.returns-then-n-eq0
-returns-then-n-eq0 c = size_empty _ _ c.digits-n.ensures.0 c.if-part-gt65535.false (sym c.is_none.ensures ∙ c.if-is_none.false) c.if-n-eq0.true
-
-pub returns-then-n-ne0 : goal.returns-then-n-ne0
-returns-then-n-ne0 c = size_odd _ _ c.digits-n.ensures.0 c.if-part-gt65535.false (sym c.is_none.ensures ∙ c.if-is_none.false) c.if-n-eq0.false c.if-n-ne0.true
+pub returns-in_err-times : goal.returns-in_err-times
+returns-in_err-times c =
+    c.from_residual.ensures
+    ∙ ap (option_map (λ (t : ℕ). c.digits-n.result / 2 * t)) (sym c.in_err-times.was ∙ c.times.ensures)
+    ∙ size_even _ _ c.digits-n.ensures.0 c.if-part-gt65535.false (sym c.is_dash.ensures ∙ c.if-is_dash.false)
+    c.if-n-eq0.false c.if-n-ne0.false
 
 pub overflow_mul-result : goal.overflow_mul-result
-overflow_mul-result c =
-    let short = c.digits-n.ensures.1 in
-    omega (arith, size_fits c.digits-n.result c.times.result (omega arith) c.times.ensures.1)
+overflow_mul-result c = record { fits = size_fits c.digits-n.result c.in_ok-times.times (omega arith) (omega arith) }
 
 pub returns : goal.returns
-returns c = size_some _ _ c.digits-n.ensures.0 _ c.if-part-gt65535.false (sym c.is_none.ensures ∙ c.if-is_none.false) c.if-n-eq0.false c.if-n-ne0.false c.times.ensures.0
+returns c =
+    ap (option_map (λ (t : ℕ). c.digits-n.result / 2 * t)) (sym c.in_ok-times.was ∙ c.times.ensures)
+    ∙ size_even _ _ c.digits-n.ensures.0 c.if-part-gt65535.false (sym c.is_dash.ensures ∙ c.if-is_dash.false)
+    c.if-n-eq0.false c.if-n-ne0.false

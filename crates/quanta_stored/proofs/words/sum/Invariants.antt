@@ -1,13 +1,8 @@
 -- The words so far make the sum.
 -- Assumes nothing.
-use Prim.Native.Nat.{◌-◌, ◌<◌}
-use lib.ListN.{length}
-use Rattle.quanta_stored.proofs.Laws.{Folded}
-use Rattle.quanta_stored.specs.Words.{added}
+use Rattle.std.proofs.Common.{◌≡◌, ◌<◌, take}
+use Rattle.quanta_stored.specs.Words.{sum_of}
 use Rattle.quanta_stored.proofs.words.sum.Given as goal
 
-abbrev pub invariant-loop-i : goal.invariant-loop-i
-invariant-loop-i l = Folded added 1 l.words l.sum l.i × (l.sum < 4294967296)
-
-abbrev pub decreases-loop-i : goal.decreases-loop-i
-decreases-loop-i l = length l.words - l.i
+abbrev pub invariant-loop-word : goal.invariant-loop-word
+invariant-loop-word l = record { made : l.sum ≡ sum_of (take l.word-index l.words); fits : l.sum < 4294967291 }
