@@ -16,7 +16,7 @@ use crate::refusal::{
 use quanta_token::bytes::{ByteChart, ByteClass, Run, peek};
 use quanta_token::edition::Edition;
 use quanta_token::keyword::keyword_kind;
-use quanta_token::symbol::{NO_KIND, pair_kind, single_kind};
+use quanta_token::symbol::{pair_kind, single_kind};
 use quanta_token::token::{DATE, INT, STR};
 use quanta_words::lookup::is_forbidden;
 
@@ -197,12 +197,10 @@ impl Lexer<'_> {
             }
             return refused(NO_DAY, start, start + 11);
         }
-        let two = pair_kind(c, peek(self.src, start + 1));
-        if two != NO_KIND {
+        if let Some(two) = pair_kind(c, peek(self.src, start + 1)) {
             return found(two, start, start + 2);
         }
-        let one = single_kind(c);
-        if one != NO_KIND {
+        if let Some(one) = single_kind(c) {
             return found(one, start, start + 1);
         }
         refused(OTHER_BYTE, start, start + 1)
