@@ -11,7 +11,7 @@ use crate::refusal::{
     BAD_TABLE, BARE_RETURN, BARRED_CHARACTER, Failure, LONG_SOURCE, NOT_UTF8, Refusal,
     SOURCE_LIMIT, TABLE_LIMIT,
 };
-use crate::scan::{BytePos, Lexer, Token};
+use crate::scan::{BytePos, Lexer, Token, skip_trivia};
 use quanta_source::source::{Fault, check_source};
 use quanta_token::bytes::ByteChart;
 use quanta_token::edition::Edition;
@@ -52,7 +52,7 @@ impl Lexer<'_> {
         let mut n: usize = 0;
         let mut i = BytePos(0);
         loop {
-            let here = self.skip_trivia(i);
+            let here = skip_trivia(self.chart, self.src, i);
             match self.next_token(here)? {
                 Some(token) => {
                     write_token(tokens, n, token);

@@ -20,16 +20,16 @@ is_dated-requires c =
 pub returns-in-Some : goal.returns-in-Some
 returns-in-Some c =
     c.found-in-Some.ensures ∙ sym (symbol_pair c.args.self.now.edition c.args.self.now.src.now c.args.start
-      (sym c.is_date_after.ensures ∙ c.if-is_date_after.false) c.peek.ensures c.pair_kind.ensures c.in-Some.is)
+    (sym c.is_date_after.ensures ∙ c.if-is_date_after.false) c.peek.ensures c.pair_kind.ensures c.in-Some.is)
 
 pub returns-in-Some-single_kind : goal.returns-in-Some-single_kind
 returns-in-Some-single_kind c =
     c.found-in-Some-single_kind.ensures ∙ sym (symbol_single c.args.self.now.edition c.args.self.now.src.now c.args.start
-      (sym c.is_date_after.ensures ∙ c.if-is_date_after.false) c.peek.ensures c.pair_kind.ensures c.in_default.not-Some
-      c.single_kind.ensures c.in-Some-single_kind.is)
+    (sym c.is_date_after.ensures ∙ c.if-is_date_after.false) c.peek.ensures c.pair_kind.ensures c.in_default.not-Some
+    c.single_kind.ensures c.in-Some-single_kind.is)
 
 pub returns : goal.returns
 returns c =
     c.refused-2.ensures ∙ sym (symbol_none c.args.self.now.edition c.args.self.now.src.now c.args.start
-      (sym c.is_date_after.ensures ∙ c.if-is_date_after.false) c.peek.ensures c.pair_kind.ensures c.in_default.not-Some
-      c.single_kind.ensures c.in_default-single_kind.not-Some)
+    (sym c.is_date_after.ensures ∙ c.if-is_date_after.false) c.peek.ensures c.pair_kind.ensures c.in_default.not-Some
+    c.single_kind.ensures c.in_default-single_kind.not-Some)
