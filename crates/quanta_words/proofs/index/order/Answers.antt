@@ -13,10 +13,13 @@ pub returns-then-a-i : goal.returns-then-a-i
 returns-then-a-i c = sym (c.loop-i.invariant.1 ∙ order_less _ _ _ c.loop-i-test.true c.if-b-i.false c.if-a-i.true)
 
 pub returns-then-b-i-2 : goal.returns-then-b-i-2
-returns-then-b-i-2 c = sym (c.loop-i.invariant.1 ∙ order_above _ _ _ c.loop-i-test.true c.if-b-i.false c.if-a-i.false c.if-b-i-2.true)
+returns-then-b-i-2 c =
+    sym (c.loop-i.invariant.1 ∙ order_above _ _ _ c.loop-i-test.true c.if-b-i.false c.if-a-i.false c.if-b-i-2.true)
 
 pub loop-i-preserved : goal.loop-i-preserved
-loop-i-preserved c = (omega arith, c.loop-i.invariant.1 ∙ order_more _ _ _ c.loop-i-test.true c.if-b-i.false c.if-a-i.false c.if-b-i-2.false)
+loop-i-preserved c =
+    let step = order_more _ _ _ c.loop-i-test.true c.if-b-i.false c.if-a-i.false c.if-b-i-2.false in
+    (omega arith, c.loop-i.invariant.1 ∙ step)
 
 pub returns-then-a-b : goal.returns-then-a-b
 returns-then-a-b c = sym (c.loop-i.invariant.1 ∙ order_first _ _ _ c.loop-i-test.false (omega arith))
