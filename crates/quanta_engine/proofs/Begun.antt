@@ -1,5 +1,6 @@
 -- The turns that begin an operand: a token that is all of it, a prefix, and each kind of bracket.
 -- Assumes nothing.
+use Rattle.std.specs.Prelude.{Err, Ok, Result}
 use mathlib.Core.Path.{◌≡◌, refl, ap, sym, subst, ◌∙◌}
 use mathlib.Core.Bool.{not}
 use mathlib.Core.List.{List, [], ◌∷◌}
@@ -126,7 +127,7 @@ module _ {ws : List ℕ} {e : Opening} {s : State} {tree : List ℕ} (r : s.rank
   pub leaf_turn : {k : ℕ} {m : Node} {tree' : List ℕ}
       → T (has literal (kind_at ws (here s))) × (k ≡ leaf_kind outs.leafs (kind_at ws (here s)))
       → m ≡ leaf_node ws (here s) (many s) k → tree' ≡ put_rec tree (many s) (leaf_rec ws (here s) k)
-      → Turns ws e s tree (turn.Stay (standing m e.allowance)) tree'
+      → Turns ws e s tree (Ok (turn.Stay (standing m e.allowance))) tree'
   leaf_turn {k} {m} {tree'} w x y σ h =
       let z = leaf_took h.task.src ws (here s) e.allowance h.stands.inside h.task.closed w x y in
       let i : m.at.0 ≡ here s + 1 = ap (λ (m : Node). m.at.0) x in
@@ -156,7 +157,7 @@ module _ {ws : List ℕ} {e : Opening} {s : State} {tree : List ℕ} (r : s.rank
       }
 
   -- a prefix
-  pub prefix_turn : {flag : ℕ} {p : TokenPos} {span : Span} {x : Turn}
+  pub prefix_turn : {flag : ℕ} {p : TokenPos} {span : Span} {x : Result Turn Refusal}
       → T (has prefixes (kind_at ws (here s))) × (flag ≡ flag_of outs.flags (node_code unary_node) (kind_at ws (here s)))
       → p.0 ≡ here s + 1 → span ≡ span_at ws (here s)
       → Opens ws (opening s.node.at span (node_code unary_node) flag 1 8 e.allowance) p s.node.no x
@@ -186,7 +187,7 @@ module _ {ws : List ℕ} {e : Opening} {s : State} {tree : List ℕ} (r : s.rank
   pub none_turn : {x : Refusal} {tree' : List ℕ} → (T (has literal (kind_at ws (here s))) → ⊥)
       → (T (has prefixes (kind_at ws (here s))) → ⊥) → (kind_at ws (here s) ≡ code LParen → ⊥)
       → (kind_at ws (here s) ≡ code Checked → ⊥) → (kind_at ws (here s) ≡ code Wrapping → ⊥)
-      → x ≡ err_at ws (here s) (refusal_code expected_expression) 0 → Turns ws e s tree (turn.Refused x) tree'
+      → x ≡ err_at ws (here s) (refusal_code expected_expression) 0 → Turns ws e s tree (Err x) tree'
   none_turn l p y z u v σ h =
       record {
         by = failed_onward (onto h r e.allowance) (primarily h r p)
@@ -194,7 +195,7 @@ module _ {ws : List ℕ} {e : Opening} {s : State} {tree : List ℕ} (r : s.rank
       }
 
   -- parentheses
-  pub parens_turn : {p : TokenPos} {x : Turn} → kind_at ws (here s) ≡ code LParen → p.0 ≡ here s + 1
+  pub parens_turn : {p : TokenPos} {x : Result Turn Refusal} → kind_at ws (here s) ≡ code LParen → p.0 ≡ here s + 1
       → Opens ws (bracket ws 1 s.node.at e.allowance) p s.node.no x → Turns ws e s tree x tree
   unfolding resume
   parens_turn {p} {x} k q z σ h =
@@ -214,7 +215,7 @@ module _ {ws : List ℕ} {e : Opening} {s : State} {tree : List ℕ} (r : s.rank
   module _ {kind i : ℕ} (v : Worded ws (here s) kind) (q : i ≡ here s + 1) where
     pub unwrapped_turn : {x : Refusal} {tree' : List ℕ}
         → (kind_at ws i ≡ code LParen → ⊥) × (x ≡ err_at ws i (refusal_code expected_token) (code LParen))
-        → Turns ws e s tree (turn.Refused x) tree'
+        → Turns ws e s tree (Err x) tree'
     unwrapped_turn z σ h =
         let c = h.task.closed in
         let j = h.stands.inside in
@@ -224,7 +225,7 @@ module _ {ws : List ℕ} {e : Opening} {s : State} {tree : List ℕ} (r : s.rank
               (wrap_unopened h.task.src ws (here s) e.allowance j w q (keyword_past v.word c j v.is) c z);
         }
 
-    pub wrap_turn : {p : TokenPos} {x : Turn} → (kind_at ws i ≡ code LParen) × (p.0 ≡ i + 1)
+    pub wrap_turn : {p : TokenPos} {x : Result Turn Refusal} → (kind_at ws i ≡ code LParen) × (p.0 ≡ i + 1)
         → Opens ws (bracket ws kind s.node.at e.allowance) p s.node.no x → Turns ws e s tree x tree
     unfolding resume
     wrap_turn {p} {x} y z σ h =

@@ -1,5 +1,6 @@
 -- AN OPERATOR over what is left of it: it goes on with a chain of its level, or begins one.
 -- Assumes nothing.
+use Rattle.std.specs.Prelude.{Result}
 use mathlib.Core.Path.{◌≡◌, refl, ap, sym, subst, ◌∙◌}
 use mathlib.Core.Bool.{Bool, true, false}
 use mathlib.Core.List.{List}
@@ -22,6 +23,7 @@ use Rattle.quanta_cursor.proofs.Sets.{fine_in}
 use Rattle.quanta_cursor.proofs.Places.{from_at}
 use Rattle.quanta_cursor.proofs.Meeting.{failed_onward}
 use Rattle.quanta_expr.proofs.Chains.{link_deep}
+use Rattle.quanta_cursor.specs.declared.parser.Refusal.{Refusal}
 use Rattle.quanta_engine.specs.declared.expr.Opening.{Opening}
 use Rattle.quanta_engine.specs.declared.expr.State.{State}
 use Rattle.quanta_engine.specs.declared.expr.Turn.{Turn}
@@ -64,7 +66,7 @@ module _ {ws : List ℕ} {σ : Shape} {e : Opening} {s : State} {tree : List ℕ
       ∙ ap (λ (o : Outcome). onward o k') (over_unary (7 - rank_of w) (rank_of w) b (from src ws q) (omega (arith, u.1)))
       ∙ onward_onward (reads unary b (from src ws q) fresh) _ _
 
-  infix_turn : {flag r : ℕ} {q : TokenPos} {x : Turn} → r ≡ rank_of w
+  infix_turn : {flag r : ℕ} {q : TokenPos} {x : Result Turn Refusal} → r ≡ rank_of w
       → flag ≡ flag_of outs.flags (node_code binary_node) (kind_at ws (here s))
       → q.0 ≡ here s + 1 → here s + 1 < size ws → Opens ws (infix_at s flag r a) q s.node.no x → Turned h x tree
   unfolding resume
@@ -115,7 +117,7 @@ linking_past c =
 
 -- THE TURN, by the allowance of the link
 pub link_turn : {ws : List ℕ} {e : Opening} {s : State} {tree : List ℕ} {kind level a flag : ℕ} {q : TokenPos}
-    {x : Turn} → Linking ws e s kind level → Allows e s level a
+    {x : Result Turn Refusal} → Linking ws e s kind level → Allows e s level a
     → flag ≡ flag_of outs.flags (node_code binary_node) kind
     → q.0 ≡ here s + 1 → Opens ws (infix_at s flag level a) q s.node.no x → Turns ws e s tree x tree
 link_turn {ws} {e} {s} {tree} {kind} {level} {a} {flag} {q} {x} c v y i d σ h =

@@ -1,7 +1,7 @@
 -- WHERE A TURN BEGINS: what a place knows in each phase; and what a call's answer makes of it.
 -- Assumes nothing.
-use Rattle.std.specs.Prelude.{Err, Ok, Result}
-use mathlib.Core.Path.{◌≡◌}
+use Rattle.std.specs.Prelude.{Err, Ok, Result, IsErrAnd}
+use mathlib.Core.Path.{◌≡◌, ap}
 use mathlib.Core.List.{List}
 use Prim.Native.Nat.{ℕ, ◌<◌, ◌≤◌}
 use native.Mathlib.Omega.{arith}
@@ -11,6 +11,9 @@ use Rattle.quanta_grammar.specs.NodeKind.{node_code, call_node}
 use Rattle.quanta_cursor.specs.Tokens.{kind_at}
 use Rattle.quanta_cursor.specs.Answers.{single}
 use Rattle.quanta_cursor.specs.Cursor.{Closes}
+use Rattle.quanta_cursor.specs.declared.parser.TokenPos.{TokenPos}
+use Rattle.quanta_cursor.specs.declared.parser.RecordNo.{RecordNo}
+use Rattle.quanta_cursor.proofs.Exits.{exits}
 use Rattle.quanta_engine.specs.declared.expr.Opening.{Opening}
 use Rattle.quanta_engine.specs.declared.expr.State.{State}
 use Rattle.quanta_engine.specs.declared.expr.Turn.{Turn}
@@ -19,7 +22,7 @@ use Rattle.quanta_engine.specs.Ranks.{rank_of, prefix_rank, operand_rank, rank}
 use Rattle.quanta_engine.specs.Frames.{Keyword, checked, wrapping, keyword_node, Shape, Frame, rank_at, here}
 use Rattle.quanta_engine.specs.Frames.{many, Phase, operands, afterwards, linking, phase_no, Task, Before, Behind}
 use Rattle.quanta_engine.specs.Frames.{Standing}
-use Rattle.quanta_engine.specs.Turns.{Place, stack, standing, Quiet}
+use Rattle.quanta_engine.specs.Turns.{Place, stack, standing, Quiet, Turns, staying, Opens, Opens', Empties}
 use Rattle.quanta_engine.proofs.Ranking.{rank_some}
 use Rattle.quanta_cursor.specs.declared.parser.Node.{Node}
 use Rattle.quanta_cursor.specs.declared.parser.Refusal.{Refusal}
@@ -72,9 +75,25 @@ abbrev pub node_at : {ws : List ℕ} {p : Phase} {j : Task ws} {F : List Frame} 
 node_at {s = s} g = single g.top g.below s.node.span
 
 -- the turn that a call's answer makes where the opening is closed
-abbrev pub shutting : ℕ → Result Node Refusal → Turn
-shutting d (Err u) = turn.Refused u
-shutting d (Ok m) = turn.Shut (standing m d)
+abbrev pub shutting : ℕ → Result Node Refusal → Result Turn Refusal
+shutting d (Err u) = Err u
+shutting d (Ok m) = Ok (turn.Shut (standing m d))
+
+-- a refusal that a `?` hands on
+pub turn_fails : {ws : List ℕ} {e : Opening} {s : State} {tree : List ℕ} {r : Result Turn Refusal} {u : Refusal}
+    {tree' : List ℕ} → IsErrAnd r (λ y. y ≡ u) → Turns ws e s tree (Err u) tree' → Turns ws e s tree r tree'
+turn_fails {ws} {e} {s} {tree} {tree' = tree'} h t = exits (λ r. Turns ws e s tree r tree') h t
+
+pub opens_fails : {ws : List ℕ} {e : Opening} {next : TokenPos} {q : RecordNo} {r : Result Turn Refusal} {u : Refusal}
+    → IsErrAnd r (λ y. y ≡ u) → Opens' ws e next q (Err u) → Opens ws e next q r
+opens_fails {ws} {e} {next} {q} h z = exits (λ r. Opens ws e next q r) h (record { by = z })
+
+pub empties_fails : {ws : List ℕ} {m : Node} {p : TokenPos} {d : ℕ} {tree : List ℕ} {r : Result Turn Refusal}
+    {u : Refusal} {y : Result Node Refusal} {tree' : List ℕ} → IsErrAnd r (λ y. y ≡ u) → y ≡ Err u
+    → Closes ws tree (code RParen) p.0 m.no.0 (node_code call_node) 0 m.at.0 m.span 1 y tree'
+    → Empties ws m p d tree r tree'
+empties_fails {ws} {m} {p} {d} {tree} {y = y} {tree'} h z v =
+    exits (λ r. Empties ws m p d tree r tree') h (record { answer = y; closes = v; is = ap (staying d) z })
 
 -- what `close` makes of the `)` at the state's token, with the numbers of the opening e
 abbrev pub ClosesAt : List ℕ → Opening → State → List ℕ → Result Node Refusal → List ℕ → Type 0

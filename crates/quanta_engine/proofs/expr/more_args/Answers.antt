@@ -9,8 +9,6 @@ use Rattle.quanta_cursor.proofs.Lists.{rolling_on, rolled, arguments}
 use Rattle.quanta_cursor.proofs.Lists.{comma_on, comma_bad, comma_stop, took_more}
 use Rattle.quanta_engine.proofs.expr.more_args.Goals as goal
 
--- WHAT THE CALLS ASK
-
 -- THE ANSWERS: no `,`; an argument that is refused
 pub returns-then-peek-ne-COMMA : goal.returns-then-peek-ne-COMMA
 returns-then-peek-ne-COMMA c = λ src o t n w.

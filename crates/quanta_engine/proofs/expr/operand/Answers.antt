@@ -10,8 +10,8 @@ use Rattle.quanta_engine.proofs.expr.operand.Goals as goal
 
 pub returns-in-Some : goal.returns-in-Some
 returns-in-Some c =
-    leaf_turn c.requires.1 (leaf_at c.peek-kind.ensures c.leaf_kind.ensures c.in-Some.is) c.leaf.ensures.0
-    c.leaf.ensures.1
+    leaf_turn c.requires.1 (leaf_at c.peek-kind.ensures c.leaf_kind.ensures c.in-Some.is) c.leaf-node.ensures.0
+    c.leaf-node.ensures.1
 
 pub returns-in-Some-prefix_op : goal.returns-in-Some-prefix_op
 returns-in-Some-prefix_op c =

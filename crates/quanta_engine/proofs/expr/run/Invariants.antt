@@ -7,9 +7,9 @@ use Rattle.quanta_engine.specs.Frames.{here}
 use Rattle.quanta_engine.specs.Runs.{Running}
 use Rattle.quanta_engine.proofs.expr.run.Given as goal
 
-abbrev pub invariant-loop-e : goal.invariant-loop-e
-invariant-loop-e l =
+abbrev pub invariant-loop-node : goal.invariant-loop-node
+invariant-loop-node l =
     Running l.tokens l.allowance l.initial.state l.initial.tree l.stack l.top l.state l.tree
 
-abbrev pub decreases-loop-e : goal.decreases-loop-e
-decreases-loop-e l = (size l.tokens - here l.state) * 2 + l.top
+abbrev pub decreases-loop-node : goal.decreases-loop-node
+decreases-loop-node l = (size l.tokens - here l.state) * 2 + l.top
