@@ -2,7 +2,6 @@
 -- Assumes nothing.
 use mathlib.Core.Path.{◌≡◌, refl, ap, sym, subst, ◌∙◌}
 use mathlib.Core.Bool.{not}
-use mathlib.Core.Logic.{◌⊎◌, inl, inr}
 use mathlib.Core.List.{List, [], ◌∷◌}
 use Prim.Native.Nat.{ℕ, ◌+◌, ◌-◌, ◌<◌}
 use native.Mathlib.Omega.{arith}
@@ -32,7 +31,6 @@ use Rattle.quanta_cursor.specs.Answers.{Failed}
 use Rattle.quanta_cursor.specs.Cursor.{span_at, err_at, deep_at, leaf_rec, leaf_node}
 use Rattle.quanta_cursor.proofs.Places.{past_as, past_in}
 use Rattle.quanta_cursor.proofs.Meeting.{failed_onward}
-use Rattle.quanta_expr.specs.Ops.{Wrapper}
 use Rattle.quanta_expr.proofs.Phrases.{leaf_took, expr_deep, unary_deep, primary_none}
 use Rattle.quanta_expr.proofs.Phrases.{Wraps, at_checked, at_wrapping, wrap_unopened}
 use Rattle.quanta_expr.proofs.Phrases as phrases
@@ -64,12 +62,6 @@ pub keyword_past : (w : Keyword) {ws : List ℕ} {i : ℕ} → Closed ws → i <
     → i + 1 < size ws
 keyword_past checked c h e = past_as (code Checked) (λ u. u) c h e
 keyword_past wrapping c h e = past_as (code Wrapping) (λ u. u) c h e
-
--- .. as the code tells it
-pub worded : {ws : List ℕ} {i k r : ℕ} → k ≡ kind_at ws i → (k ≡ code Checked) ⊎ (k ≡ code Wrapping) → Wrapper k r
-    → Worded ws i r
-worded e (inl x) w = record { word = checked; is = sym e ∙ x; makes = w.checked x }
-worded e (inr x) w = record { word = wrapping; is = sym e ∙ x; makes = w.wrapping x }
 
 keyword_flagless : (w : Keyword) (k : ℕ) → 0 ≡ flag_of outs.flags (node_code (keyword_node w)) k
 keyword_flagless checked k = refl

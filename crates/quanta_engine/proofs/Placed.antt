@@ -79,7 +79,7 @@ shutting d (Ok m) = turn.Shut (standing m d)
 -- what `close` makes of the `)` at the state's token, with the numbers of the opening e
 abbrev pub ClosesAt : List ℕ → Opening → State → List ℕ → Result Node Refusal → List ℕ → Type 0
 ClosesAt ws e s tree y tree' =
-    Closes ws tree (code RParen) (here s) (many s) e.rec.kind e.rec.flag e.rec.own.0 e.rec.span e.rec.children y tree'
+    Closes ws tree (code RParen) (here s) (many s) e.kind e.flag e.own.0 e.span e.count y tree'
 
 -- a keyword's node is none of the others
 pub keyword_kind : (w : Keyword) → (1 < node_code (keyword_node w)) × (node_code (keyword_node w) < node_code call_node)

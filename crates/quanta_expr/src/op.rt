@@ -43,80 +43,77 @@ pub const NOT: u32 = 0;
 
 pub const NEG: u32 = 1;
 
-// The token is no operator of the level, and no prefix.
+// No operator: what the grammar has where a token is none.
 pub const NO_OP: u32 = 14;
 
-// The token is no whole expression.
-pub const NO_NODE: u32 = 0;
-
-pub fn equality_op(kind: u32) -> u32
+pub fn equality_op(kind: u32) -> Option<u32>
     ensures { Operator equality kind result }
 {
     match kind {
-        token::EQ_EQ => EQ,
-        token::NE => NE,
-        _ => NO_OP,
+        token::EQ_EQ => Some(EQ),
+        token::NE => Some(NE),
+        _ => None,
     }
 }
 
-pub fn comparison_op(kind: u32) -> u32
+pub fn comparison_op(kind: u32) -> Option<u32>
     ensures { Operator comparison kind result }
 {
     match kind {
-        token::LT => LT,
-        token::GT => GT,
-        token::LE => LE,
-        token::GE => GE,
-        _ => NO_OP,
+        token::LT => Some(LT),
+        token::GT => Some(GT),
+        token::LE => Some(LE),
+        token::GE => Some(GE),
+        _ => None,
     }
 }
 
-pub fn additive_op(kind: u32) -> u32
+pub fn additive_op(kind: u32) -> Option<u32>
     ensures { Operator additive kind result }
 {
     match kind {
-        token::PLUS => ADD,
-        token::MINUS => SUB,
-        _ => NO_OP,
+        token::PLUS => Some(ADD),
+        token::MINUS => Some(SUB),
+        _ => None,
     }
 }
 
-pub fn multiplicative_op(kind: u32) -> u32
+pub fn multiplicative_op(kind: u32) -> Option<u32>
     ensures { Operator multiplicative kind result }
 {
     match kind {
-        token::STAR => MUL,
-        token::SLASH => DIV,
-        token::PERCENT => REM,
-        _ => NO_OP,
+        token::STAR => Some(MUL),
+        token::SLASH => Some(DIV),
+        token::PERCENT => Some(REM),
+        _ => None,
     }
 }
 
-pub fn prefix_op(kind: u32) -> u32
+pub fn prefix_op(kind: u32) -> Option<u32>
     ensures { Prefix kind result }
 {
     match kind {
-        token::BANG => NOT,
-        token::MINUS => NEG,
-        _ => NO_OP,
+        token::BANG => Some(NOT),
+        token::MINUS => Some(NEG),
+        _ => None,
     }
 }
 
 // The record of a token that is a whole expression.
-pub fn leaf_kind(kind: u32) -> u32
+pub fn leaf_kind(kind: u32) -> Option<u32>
     requires { kind ≤ code Eof }
     ensures { Leaf kind result }
 {
     match kind {
-        token::INT => node::INT,
-        token::DATE => node::DATE,
-        token::STR => node::STR,
-        token::IDENT => node::NAME,
-        token::CALLER => node::CALLER,
-        token::IN_ASSET => node::IN_ASSET,
-        token::NATIVE => node::NATIVE,
-        token::NOW => node::NOW,
-        _ => NO_NODE,
+        token::INT => Some(node::INT),
+        token::DATE => Some(node::DATE),
+        token::STR => Some(node::STR),
+        token::IDENT => Some(node::NAME),
+        token::CALLER => Some(node::CALLER),
+        token::IN_ASSET => Some(node::IN_ASSET),
+        token::NATIVE => Some(node::NATIVE),
+        token::NOW => Some(node::NOW),
+        _ => None,
     }
 }
 

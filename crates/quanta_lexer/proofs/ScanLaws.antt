@@ -1,7 +1,7 @@
 -- Where what stands at a place lies: it starts there, has at least a byte, and ends within the source; a token's kind
 -- and a refusal's number are in range.
 use Prim.Native.Nat.{ℕ, zero, suc, ◌+◌, ◌≤◌, ◌<◌}
-use mathlib.Core.Path.{◌≡◌, refl, sym, ◌∙◌}
+use mathlib.Core.Path.{◌≡◌, refl, sym, subst, ◌∙◌}
 use mathlib.Core.Bool.{Bool, true, false, ◌&&◌, ◌||◌, not, and-false, true≢false}
 use mathlib.Core.List.{List, [], ◌∷◌}
 use mathlib.Core.Logic.{◌⊎◌, inl, inr}
@@ -14,15 +14,15 @@ use Rattle.quanta_token.specs.declared.edition.Edition.TheVariants.{One, Two}
 use Rattle.quanta_token.specs.Bytes.{digit, word_start, goes_on}
 use Rattle.quanta_token.specs.Keywords.{keywords, word_kind}
 use Rattle.quanta_token.specs.Runs.{run_end}
-use Rattle.quanta_token.specs.Symbols.{pairs, singles, no_kind, pair_kind, single_kind}
+use Rattle.quanta_token.specs.Symbols.{pairs, singles, no_kind, pair_kind, single_kind, if_any}
 use Rattle.quanta_token.specs.Text.{Spelled, kind_if, kind_in, same}
 use Rattle.quanta_token.specs.TokenKind.{code, Ident, Eof}
 use Rattle.quanta_token.specs.declared.bytes.Run.TheVariants.{Word, Number, Quoted}
 use Rattle.quanta_token.proofs.BoolLaws.{both}
 use Rattle.quanta_token.proofs.RunLaws.{end_more, end_from, end_within, end_bounds}
-use Rattle.quanta_lexer.specs.Refusals.{barred_word, other_byte, no_day}
-use Rattle.quanta_lexer.specs.Scan.{Lexed, choose, word_at, date_at, number_at, string_at, dated, symbol_at, token_at}
-use Rattle.std.specs.Prelude.{Some, None, Ok, Err}
+use Rattle.quanta_lexer.specs.Refusals.{refusal, barred_word, other_byte, no_day}
+use Rattle.quanta_lexer.specs.Scan.{Lexed, token, choose, word_at, date_at, number_at, string_at, dated, symbol_at, token_at}
+use Rattle.std.specs.Prelude.{Option, Some, None, Ok, Err, cond}
 
 -- the number of a failing token: 6 to 10, or 28 in edition 2, for the 11 bytes of a Date
 abbrev pub Numbered : Edition → ℕ → ℕ → ℕ → Type 0
@@ -190,3 +190,46 @@ unfolding date_at
 no_dash s i h =
     let year = digit (get_or s i 0) && digit (get_or s (i + 1) 0) && digit (get_or s (i + 2) 0) && digit (get_or s (i + 3) 0) in
     rw (ne_eqb (get_or s (i + 4) 0) 0x2D h, and-false year)
+
+-- what a symbol's kind says of its number
+abbrev Kinded : ℕ → Option ℕ → Type 0
+Kinded k (Some t) = (eqb k no_kind ≡ false) × (t ≡ k)
+Kinded k None = eqb k no_kind ≡ true
+
+kinded : (k : ℕ) (b : Bool) → eqb k no_kind ≡ b → Kinded k (cond b None (Some k))
+kinded k true e = e
+kinded k false e = (e, refl)
+
+some_kind : (k : ℕ) {o : Option ℕ} {t : ℕ} → o ≡ if_any k → o ≡ Some t → (eqb k no_kind ≡ false) × (t ≡ k)
+unfolding if_any
+some_kind k e z = subst (Kinded k) (sym e ∙ z) (kinded k (eqb k no_kind) refl)
+
+none_kind : (k : ℕ) {o : Option ℕ} → o ≡ if_any k → ((t : ℕ) → o ≡ Some t → ⊥) → eqb k no_kind ≡ true
+unfolding if_any
+none_kind k {o} e n = at (eqb k no_kind) refl
+  where
+    at : (b : Bool) → eqb k no_kind ≡ b → eqb k no_kind ≡ true
+    at true h = h
+    at false h = absurd (n k (rw (e, h) refl))
+
+-- WHERE NO DATE STANDS: a symbol of two bytes, a symbol of one, or another byte
+module _ (ed : Edition) (s : List ℕ) (i : ℕ) (d : (eqb (get_or s i 0) 0x40 && date_at s (i + 1)) ≡ false) {b : ℕ}
+    (z : b ≡ get_or s (i + 1) 0) {o : Option ℕ} (p : o ≡ if_any (pair_kind (get_or s i 0) b)) where
+  pub symbol_pair : {t : ℕ} → o ≡ Some t → symbol_at ed s i ≡ Ok (Some (token t i (i + 2)))
+  unfolding symbol_at choose
+  symbol_pair e = let k = some_kind (pair_kind (get_or s i 0) b) p e in rw (d, ← z, k.0, k.1) refl
+
+  module _ (n : (t : ℕ) → o ≡ Some t → ⊥) {o₁ : Option ℕ} (q : o₁ ≡ if_any (single_kind (get_or s i 0))) where
+    pub symbol_single : {t : ℕ} → o₁ ≡ Some t → symbol_at ed s i ≡ Ok (Some (token t i (i + 1)))
+    unfolding symbol_at choose
+    symbol_single e =
+        let m = none_kind (pair_kind (get_or s i 0) b) p n in
+        let k = some_kind (single_kind (get_or s i 0)) q e in
+        rw (d, ← z, m, k.0, k.1) refl
+
+    pub symbol_none : ((t : ℕ) → o₁ ≡ Some t → ⊥) → symbol_at ed s i ≡ Err (refusal other_byte i (i + 1))
+    unfolding symbol_at choose
+    symbol_none n₁ =
+        let m = none_kind (pair_kind (get_or s i 0) b) p n in
+        let k = none_kind (single_kind (get_or s i 0)) q n₁ in
+        rw (d, ← z, m, k) refl

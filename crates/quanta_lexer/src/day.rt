@@ -29,7 +29,8 @@ fn month_days(year: u32, month: u32) -> u32
 
 // The number that the digit at i writes.
 fn digit_at(src: &[u8], i: usize) -> u32
-    ensures { (result ≡ digit_at src.now i) × (result < 256) }
+    ensures value { result ≡ digit_at src.now i }
+    ensures small { result < 256 }
 {
     u32::from(peek(src, i).saturating_sub(b'0'))
 }
@@ -37,7 +38,8 @@ fn digit_at(src: &[u8], i: usize) -> u32
 // The number that the two digits at i write.
 fn two_at(src: &[u8], i: usize) -> u32
     requires { i ≤ length src.now }
-    ensures { (result ≡ two_at src.now i) × (result < 4096) }
+    ensures value { result ≡ two_at src.now i }
+    ensures small { result < 4096 }
 {
     digit_at(src, i) * 10 + digit_at(src, i + 1)
 }

@@ -11,7 +11,7 @@ use crate::refusal::{
     BAD_TABLE, BARE_RETURN, BARRED_CHARACTER, Failure, LONG_SOURCE, NOT_UTF8, Refusal,
     SOURCE_LIMIT, TABLE_LIMIT,
 };
-use crate::scan::{BytePos, Lexer, Token};
+use crate::scan::{BytePos, Lexer, Token, skip_trivia};
 use quanta_source::source::{Fault, check_source};
 use quanta_token::bytes::ByteChart;
 use quanta_token::edition::Edition;
@@ -30,7 +30,9 @@ fn refused(number: u32, start: usize, end: usize) -> Result<usize, Refusal>
 // Writes a token's record after n others, if it has room.
 #[tactic(auto, using(crate::proofs::TokensLaws::store_room, crate::proofs::TokensLaws::store_full))]
 fn write_token(tokens: &mut [u32], n: usize, token: Token)
-    requires { (n < 2 ^ 32) × (token.start.0 < 2 ^ 32) × (token.end.0 < 2 ^ 32) }
+    requires count { n < 2 ^ 32 }
+    requires start { token.start.0 < 2 ^ 32 }
+    requires end { token.end.0 < 2 ^ 32 }
     ensures { tokens.new ≡ store n (tok token.kind token.start.0 token.end.0) tokens.old }
 {
     let at = 3 * n;
@@ -50,7 +52,7 @@ impl Lexer<'_> {
         let mut n: usize = 0;
         let mut i = BytePos(0);
         loop {
-            let here = self.skip_trivia(i);
+            let here = skip_trivia(self.chart, self.src, i);
             match self.next_token(here)? {
                 Some(token) => {
                     write_token(tokens, n, token);
@@ -150,9 +152,8 @@ fn read_source(
     words: &[u8],
     tokens: &mut [u32],
 ) -> Result<usize, Refusal>
-    ensures { (result ≡ reading edition src.now words.now)
-        × Written (lex_all edition src.now words.now).toks
-        tokens.old tokens.new result }
+    ensures answer { result ≡ reading edition src.now words.now }
+    ensures words { Written (lex_all edition src.now words.now).toks tokens.old tokens.new result }
 {
     if TABLE_LIMIT < words.len() {
         return refused(BAD_TABLE, TABLE_LIMIT, TABLE_LIMIT);
@@ -181,9 +182,8 @@ pub fn tokenize(
     words: &[u8],
     tokens: &mut [u32],
 ) -> Result<usize, Failure>
-    ensures { (result ≡ tokenizing edition src.now words.now (length tokens.old))
-        × (tokens.new ≡
-        token_words edition src.now words.now (length tokens.old)) }
+    ensures answer { result ≡ tokenizing edition src.now words.now (length tokens.old) }
+    ensures words { tokens.new ≡ token_words edition src.now words.now (length tokens.old) }
 {
     match read_source(edition, src, words, tokens) {
         Err(refusal) => {

@@ -16,7 +16,7 @@ use crate::refusal::{
 use quanta_token::bytes::{ByteChart, ByteClass, Run, peek};
 use quanta_token::edition::Edition;
 use quanta_token::keyword::keyword_kind;
-use quanta_token::symbol::{NO_KIND, pair_kind, single_kind};
+use quanta_token::symbol::{pair_kind, single_kind};
 use quanta_token::token::{DATE, INT, STR};
 use quanta_words::lookup::is_forbidden;
 
@@ -51,6 +51,29 @@ fn refused(number: u32, start: usize, end: usize) -> Lexed
     Err(Refusal { number, start, end })
 }
 
+// Whether `//` stands at i.
+fn is_comment_at(src: &[u8], i: usize) -> bool
+    requires { i ≤ length src.now }
+    ensures { result ≡ comment_at src.now i }
+{
+    (peek(src, i) == b'/') & (peek(src, i + 1) == b'/')
+}
+
+// The first place at or after `at` that is in no blank and in no comment.
+pub fn skip_trivia(chart: &ByteChart, src: &[u8], at: BytePos) -> BytePos
+    requires { at.0 ≤ length src.now }
+    ensures { result.0 ≡ trivia_end src.now at.0 }
+{
+    let mut i = at.0;
+    loop {
+        i = chart.run_end(src, i, Run::Blanks);
+        if !is_comment_at(src, i) {
+            return BytePos(i);
+        }
+        i = chart.run_end(src, i, Run::Comment);
+    }
+}
+
 // A source, and what is made once to read its tokens: the chart, and the sieve and index of the word table.
 #[derive(Drop)]
 pub struct Lexer<'a> {
@@ -64,29 +87,6 @@ pub struct Lexer<'a> {
 }
 
 impl Lexer<'_> {
-    // Whether `//` stands at i.
-    fn is_comment_at(&self, i: usize) -> bool
-        requires { i ≤ length self.now.src.now }
-        ensures { result ≡ comment_at self.now.src.now i }
-    {
-        (peek(self.src, i) == b'/') & (peek(self.src, i + 1) == b'/')
-    }
-
-    // The first place at or after `at` that is in no blank and in no comment.
-    pub fn skip_trivia(&self, at: BytePos) -> BytePos
-        requires { at.0 ≤ length self.now.src.now }
-        ensures { result.0 ≡ trivia_end self.now.src.now at.0 }
-    {
-        let mut i = at.0;
-        loop {
-            i = self.chart.run_end(self.src, i, Run::Blanks);
-            if !self.is_comment_at(i) {
-                return BytePos(i);
-            }
-            i = self.chart.run_end(self.src, i, Run::Comment);
-        }
-    }
-
     // Whether a digit stands at i.
     #[inline(always)]
     fn is_digit_at(&self, i: usize) -> bool
@@ -197,12 +197,10 @@ impl Lexer<'_> {
             }
             return refused(NO_DAY, start, start + 11);
         }
-        let two = pair_kind(c, peek(self.src, start + 1));
-        if two != NO_KIND {
+        if let Some(two) = pair_kind(c, peek(self.src, start + 1)) {
             return found(two, start, start + 2);
         }
-        let one = single_kind(c);
-        if one != NO_KIND {
+        if let Some(one) = single_kind(c) {
             return found(one, start, start + 1);
         }
         refused(OTHER_BYTE, start, start + 1)

@@ -23,9 +23,8 @@ pub struct Outcome {
 
 #[unsafe(no_mangle)]
 pub extern "C" fn quanta_tokenize(source: &[u8], words: &[u8], tokens: &mut [u32]) -> Outcome
-    ensures { (result ≡ outcome_of (tokenizing One source.now words.now (length tokens.old)))
-        × (tokens.new ≡
-        token_words One source.now words.now (length tokens.old)) }
+    ensures answer { result ≡ outcome_of (tokenizing One source.now words.now (length tokens.old)) }
+    ensures words { tokens.new ≡ token_words One source.now words.now (length tokens.old) }
 {
     match tokenize(Edition::One, source, words, tokens) {
         Ok(n) => Outcome {

@@ -1,5 +1,5 @@
 -- The symbols.
-use Rattle.std.specs.Prelude.{ℕ, List, [], ◌∷◌}
+use Rattle.std.specs.Prelude.{ℕ, cond, eqb, List, [], ◌∷◌, Option, Some, None}
 use Rattle.quanta_token.specs.Text.{Spelled, spell, kind_in}
 use Rattle.quanta_token.specs.TokenKind.{PlusEq, MinusEq, Le, Ge, Shr, EqEq, Ne, AndAnd, OrOr, LBrace, RBrace, LParen, RParen, Comma, Semi, Colon, Dot, Eq, Plus, Minus, Star, Slash, Percent, Lt, Gt, Bang}
 
@@ -49,3 +49,7 @@ pair_kind c d = kind_in pairs (c ∷ d ∷ []) no_kind
 
 unfoldable pub single_kind : ℕ → ℕ
 single_kind c = kind_in singles (c ∷ []) no_kind
+
+-- a kind, if it is one
+unfoldable pub if_any : ℕ → Option ℕ
+if_any k = cond (eqb k no_kind) None (Some k)

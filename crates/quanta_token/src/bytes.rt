@@ -29,20 +29,17 @@ pub fn is_word_start(c: u8) -> bool
 pub fn is_word_byte(c: u8) -> bool
     ensures { result ≡ word_byte c }
 {
-    ((b'a' <= c) & (c <= b'z'))
-        | ((b'A' <= c) & (c <= b'Z'))
-        | (c == b'_')
-        | ((b'0' <= c) & (c <= b'9'))
+    is_word_start(c) | is_digit(c)
 }
 
-fn is_digit(c: u8) -> bool
+pub fn is_digit(c: u8) -> bool
     ensures { result ≡ digit c }
 {
     (b'0' <= c) & (c <= b'9')
 }
 
 // Space, tab, LF or CR.
-fn is_blank(c: u8) -> bool
+pub fn is_blank(c: u8) -> bool
     ensures { result ≡ blank c }
 {
     (c == b' ') | (c == b'\t') | (c == b'\n') | (c == b'\r')

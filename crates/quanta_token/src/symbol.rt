@@ -3,58 +3,55 @@
 
 // The symbols of two bytes and of one.
 ghost use Rattle.std.specs.Prelude.{◌≡◌};
-ghost use Rattle.quanta_token.specs.Symbols.{pair_kind, single_kind};
+ghost use Rattle.quanta_token.specs.Symbols.{pair_kind, single_kind, if_any};
 
 use crate::token::{
     AND_AND, BANG, COLON, COMMA, DOT, EQ, EQ_EQ, GE, GT, LBRACE, LE, LPAREN, LT, MINUS, MINUS_EQ,
     NE, OR_OR, PERCENT, PLUS, PLUS_EQ, RBRACE, RPAREN, SEMI, SHR, SLASH, STAR,
 };
 
-// No kind: no symbol stands there.
-pub const NO_KIND: u32 = 0;
-
-// The kind of the symbol c d.
-#[tactic(auto, unfolding(crate::specs::Symbols::pair_kind, crate::specs::Text::kind_if, crate::specs::Text::same))]
-pub fn pair_kind(c: u8, d: u8) -> u32
-    ensures { result ≡ pair_kind c d }
+// The kind of the symbol c d, if it is one.
+#[tactic(auto, unfolding(crate::specs::Symbols::if_any, crate::specs::Symbols::pair_kind, crate::specs::Text::kind_if, crate::specs::Text::same))]
+pub fn pair_kind(c: u8, d: u8) -> Option<u32>
+    ensures { result ≡ if_any (pair_kind c d) }
 {
     match (c, d) {
-        (b'+', b'=') => PLUS_EQ,
-        (b'-', b'=') => MINUS_EQ,
-        (b'<', b'=') => LE,
-        (b'>', b'=') => GE,
-        (b'>', b'>') => SHR,
-        (b'=', b'=') => EQ_EQ,
-        (b'!', b'=') => NE,
-        (b'&', b'&') => AND_AND,
-        (b'|', b'|') => OR_OR,
-        _ => NO_KIND,
+        (b'+', b'=') => Some(PLUS_EQ),
+        (b'-', b'=') => Some(MINUS_EQ),
+        (b'<', b'=') => Some(LE),
+        (b'>', b'=') => Some(GE),
+        (b'>', b'>') => Some(SHR),
+        (b'=', b'=') => Some(EQ_EQ),
+        (b'!', b'=') => Some(NE),
+        (b'&', b'&') => Some(AND_AND),
+        (b'|', b'|') => Some(OR_OR),
+        _ => None,
     }
 }
 
-// The kind of the symbol c.
-#[tactic(auto, unfolding(crate::specs::Symbols::single_kind, crate::specs::Text::kind_if, crate::specs::Text::same))]
-pub fn single_kind(c: u8) -> u32
-    ensures { result ≡ single_kind c }
+// The kind of the symbol c, if it is one.
+#[tactic(auto, unfolding(crate::specs::Symbols::if_any, crate::specs::Symbols::single_kind, crate::specs::Text::kind_if, crate::specs::Text::same))]
+pub fn single_kind(c: u8) -> Option<u32>
+    ensures { result ≡ if_any (single_kind c) }
 {
     match c {
-        b'{' => LBRACE,
-        b'}' => RBRACE,
-        b'(' => LPAREN,
-        b')' => RPAREN,
-        b',' => COMMA,
-        b';' => SEMI,
-        b':' => COLON,
-        b'.' => DOT,
-        b'=' => EQ,
-        b'+' => PLUS,
-        b'-' => MINUS,
-        b'*' => STAR,
-        b'/' => SLASH,
-        b'%' => PERCENT,
-        b'<' => LT,
-        b'>' => GT,
-        b'!' => BANG,
-        _ => NO_KIND,
+        b'{' => Some(LBRACE),
+        b'}' => Some(RBRACE),
+        b'(' => Some(LPAREN),
+        b')' => Some(RPAREN),
+        b',' => Some(COMMA),
+        b';' => Some(SEMI),
+        b':' => Some(COLON),
+        b'.' => Some(DOT),
+        b'=' => Some(EQ),
+        b'+' => Some(PLUS),
+        b'-' => Some(MINUS),
+        b'*' => Some(STAR),
+        b'/' => Some(SLASH),
+        b'%' => Some(PERCENT),
+        b'<' => Some(LT),
+        b'>' => Some(GT),
+        b'!' => Some(BANG),
+        _ => None,
     }
 }

@@ -1,106 +1,96 @@
 -- The laws of the index.
-use Prim.Native.Nat.{ℕ, zero, suc, ◌+◌, ◌≤◌, ◌<◌}
-use mathlib.Core.Path.{◌≡◌, refl, ap, sym, subst, ◌∙◌}
-use mathlib.Core.Bool.{Bool, true, false, false≢true}
-use mathlib.Core.List.{List, [], ◌∷◌, ◌++◌}
+use Prim.Native.Nat.{ℕ, zero, suc, ◌+◌, ◌-◌, ◌/◌, ◌≤◌, ◌<◌}
+use mathlib.Core.Path.{◌≡◌, refl, ap, sym, ◌∙◌}
+use mathlib.Core.Bool.{Bool, true, false, cond, false≢true}
+use mathlib.Core.List.{List}
 use native.Mathlib.Omega.{arith}
-use lib.ListN.{length, get_or, take, set, length-append}
-use Rattle.std.proofs.lemmas.List.{take_more_set, get_or_append_left}
-use Rattle.std.proofs.lemmas.List.Sorted.{searchable_from_sorted, All-permutation, IsPermutation-sym}
-use Rattle.std.proofs.lemmas.Map.Text.{is_eq-slice_cmp}
-use Rattle.std.proofs.lemmas.Map.Lookups.{exact_bytes}
-use lib.Seq.{get_or-append_seam}
+use native.Mathlib.Numerals.{add-one}
+use lib.ListN.{length, get_or, drop, drop_of_length-le}
+use lib.Seq.{drop-cons}
 use lib.Dec.{ltb}
-use borrow.Author.Tests.{le-leb, lt-leb, ltb-true, ltb-false}
-use Rattle.std.specs.Prelude.{All, ◌≢◌, Result, Ok, Err}
-use Rattle.std.proofs.Common.{Ordering, Less, Greater}
-use Rattle.std.specs.Result.{is_ok}
-use Rattle.std.specs.Ordering.{nat_cmp, is_eq}
-use Rattle.std.specs.Cmp.Lexicographic.{slice_cmp, nat_list_cmp_total, nat_list_eq_equiv}
-use Rattle.std.specs.List.Sorted.{IsSearchInRange, IsBinarySearchResult, IsPartitionPoint, IsPermutation}
-use Rattle.quanta_words.specs.Words.{after_at, word_at, held_in}
-use Rattle.quanta_words.specs.Index.{entry, Ordered, Found, Unfound, Lists}
+use borrow.Author.Tests.{lt-ltb, le-ltb, eq-eqb, ne_eqb}
+use Rattle.quanta_token.specs.Text.{same}
+use Rattle.quanta_words.specs.Words.{HasWord, after_at, word_at, held_in}
+use Rattle.quanta_words.specs.Index.{order_of, order_at, probe_from, probe_of}
 use Rattle.quanta_words.proofs.WordLaws.{held_from, not_same, held_next}
 
--- a place with a whole record, and one without
-pub entry_in : (t : List ℕ) (i : ℕ) → after_at t i ≤ length t → entry t i ≡ word_at t i
-unfolding entry
-entry_in t i h = rw (le-leb _ _ h)
+module _ (a b : List ℕ) (i : ℕ) where
+  at_both : i < length a → i < length b → order_of (drop i a) (drop i b) ≡ cond (ltb (get_or a i 0) (get_or b i 0)) 0 (cond (ltb (get_or b i 0) (get_or a i 0)) 2 (order_of (drop (suc i) a) (drop (suc i) b)))
+  unfolding order_of
+  at_both h k = rw (drop-cons a i 0 h, drop-cons b i 0 k)
 
-pub entry_out : (t : List ℕ) (i : ℕ) → length t < after_at t i → entry t i ≡ []
-unfolding entry
-entry_out t i h = rw (lt-leb _ _ h)
+  pub order_less : i < length a → i < length b → get_or a i 0 < get_or b i 0 → order_of (drop i a) (drop i b) ≡ 0
+  order_less h k l = at_both h k ∙ rw (lt-ltb _ _ l)
 
--- past the records whose places are listed, no word was held that is at none of them
-abbrev pub Listed : List ℕ → List ℕ → ℕ → ℕ → Type 0
-Listed t f m i = (w : List ℕ) → All (λ j. entry t j ≢ w) f → held_in t w ≡ held_from m t i w
+  pub order_above : i < length a → i < length b → get_or b i 0 ≤ get_or a i 0 → get_or b i 0 < get_or a i 0 → order_of (drop i a) (drop i b) ≡ 2
+  order_above h k g l = at_both h k ∙ rw (le-ltb _ _ g, lt-ltb _ _ l)
 
--- what holds of each element of a list and one more
-all_front : (P : ℕ → Type 0) (xs : List ℕ) (y : ℕ) → All P (xs ++ y ∷ []) → All P xs × P y
-all_front P xs y h = (
-  λ k d l. subst P (get_or_append_left xs (y ∷ []) d k l) (h k d (omega (arith, length-append xs (y ∷ [])))),
-  subst P (get_or-append_seam xs y [] 0) (h (length xs) 0 (omega (arith, length-append xs (y ∷ [])))),
-)
+  pub order_more : i < length a → i < length b → get_or b i 0 ≤ get_or a i 0 → get_or a i 0 ≤ get_or b i 0 → order_of (drop i a) (drop i b) ≡ order_of (drop (i + 1) a) (drop (i + 1) b)
+  order_more h k g l = at_both h k ∙ rw (le-ltb _ _ g, le-ltb _ _ l, add-one)
 
--- a record more
-pub listed_more :
-    (m : ℕ) (t f : List ℕ) (n i : ℕ) →
-    length t < m + i →
-    after_at t i ≤ length t →
-    n < length f →
-    Listed t (take n f) m i →
-    (o : ℕ) × (length t < o + after_at t i) × Listed t (take (n + 1) (set f n i)) o (after_at t i)
-listed_more zero t f n i b h k g = absurd (omega arith)
-listed_more (suc m) t f n i b h k g = (
-  m,
-  omega arith,
-  λ w z.
-      let y = all_front (λ (j : ℕ). entry t j ≢ w) (take n f) i (rw (take_more_set f n i k) at z) in
-      g w y.0 ∙ held_next m t i w h (not_same w (word_at t i) (λ e. y.1 (entry_in t i h ∙ sym e))),
-)
+  pub order_short : i < length a → length b ≤ i → order_of (drop i a) (drop i b) ≡ 2
+  unfolding order_of
+  order_short h k = rw (drop-cons a i 0 h, drop_of_length-le b k)
 
--- the same places in another order
-pub lists_again : (t f g : List ℕ) → IsPermutation f g → Lists t f → Lists t g
-lists_again t f g p h w none = h w (All-permutation (λ i. entry t i ≢ w) g f (IsPermutation-sym f g p) none)
+  pub order_first : length a ≤ i → i < length b → order_of (drop i a) (drop i b) ≡ 0
+  unfolding order_of
+  order_first h k = rw (drop_of_length-le a h, drop-cons b i 0 k)
 
--- what a search by word answers
-pub found :
-    (t f w : List ℕ) (r : Result ℕ ℕ) →
-    IsSearchInRange r (length f) →
-    IsBinarySearchResult (λ i. slice_cmp nat_cmp (entry t i) w) f r →
-    is_ok r ≡ true →
-    Found t f w
-found t f w (Ok i) l g h = (i, l, exact_bytes _ _ (g 0))
-found t f w (Err i) l g h = absurd (false≢true h)
+  pub order_same : length a ≤ i → length b ≤ i → order_of (drop i a) (drop i b) ≡ 1
+  unfolding order_of
+  order_same h k = rw (drop_of_length-le a h, drop_of_length-le b k)
 
-pub unfound :
-    (t f w : List ℕ) (r : Result ℕ ℕ) →
-    IsBinarySearchResult (λ i. slice_cmp nat_cmp (entry t i) w) f r →
-    Ordered t f →
-    is_ok r ≡ false →
-    Unfound t f w
-unfound t f w (Ok i) g c h = absurd (false≢true (sym h))
-unfound t f w (Err i) g c h = λ k d l e. at k d l e (ltb k i) refl
+-- a word against a record's word, and against no record
+pub order_in : (t : List ℕ) (i : ℕ) (w h : List ℕ) → HasWord t i h → order_of w h ≡ order_at t i w
+unfolding order_at
+order_in t i w h g =
+    sym (rw (le-ltb (length t) i (omega (arith, g.inside)), le-ltb _ _ g.inside, g.is))
+
+pub order_out : (t : List ℕ) (i : ℕ) (w : List ℕ) → length t < after_at t i → 2 ≡ order_at t i w
+unfolding order_at
+order_out t i w h = sym (rw (lt-ltb _ _ h) (at (ltb (length t) i)))
   where
-    by_word : ℕ → Ordering
-    by_word j = slice_cmp nat_cmp (entry t j) w
+    at : {n : ℕ} (b : Bool) → cond b n n ≡ n
+    at true = refl
+    at false = refl
 
-    cut : IsPartitionPoint (λ j. by_word j ≡ Less) (λ j. by_word j ≡ Greater) f i
-    cut = g (searchable_from_sorted nat_list_cmp_total (entry t) f w c)
+module _ (t f w : List ℕ) where
+  pub probe_past : (n lo hi : ℕ) → hi ≤ lo → probe_from n t f w lo hi ≡ false
+  unfolding probe_from
+  probe_past zero lo hi h = refl
+  probe_past (suc n) lo hi h = rw (le-ltb lo hi h, probe_from)
 
-    level : (x : List ℕ) (o : Ordering) → x ≡ w → slice_cmp nat_cmp x w ≡ o → is_eq o ≡ true
-    level x o e q =
-        ap is_eq (sym q ∙ ap (λ y. slice_cmp nat_cmp y w) e) ∙ is_eq-slice_cmp w w ∙ nat_list_eq_equiv.refl w
+  module _ (lo hi k : ℕ) (h : lo < hi) (e : k ≡ order_at t (get_or f (lo + (hi - lo) / 2) 0) w) where
+    pub probe_hit : (n : ℕ) → hi < n + lo → k ≡ 1 → probe_from n t f w lo hi ≡ true
+    unfolding probe_from
+    probe_hit zero b q = absurd (omega arith)
+    probe_hit (suc n) b q = rw (lt-ltb lo hi h, eq-eqb (order_at t (get_or f (lo + (hi - lo) / 2) 0) w) 1 (sym e ∙ q), probe_from)
 
-    at : (k d : ℕ) → k < length f → entry t (get_or f k d) ≡ w → (b : Bool) → ltb k i ≡ b → ⊥
-    at k d l e true q = false≢true (level _ Less e (cut.0 k d (omega arith) (ltb-true _ _ q)))
-    at k d l e false q = false≢true (level _ Greater e (cut.1 k d (ltb-false _ _ q) l))
+    pub probe_left : (n : ℕ) → hi < n + lo → (k ≡ 1 → ⊥) → k ≡ 0 → (m : ℕ) × (lo + (hi - lo) / 2 < m + lo) × (probe_from n t f w lo hi ≡ probe_from m t f w lo (lo + (hi - lo) / 2))
+    unfolding probe_from
+    probe_left zero b q z = absurd (omega arith)
+    probe_left (suc n) b q z = (n, omega arith, rw (lt-ltb lo hi h, ne_eqb (order_at t (get_or f (lo + (hi - lo) / 2) 0) w) 1 (λ x. q (e ∙ x)), eq-eqb (order_at t (get_or f (lo + (hi - lo) / 2) 0) w) 0 (sym e ∙ z), probe_from))
 
--- an order of two words, each known by an equation
-pub order_at :
-    {x y : List ℕ} {r : Ordering} (v w : List ℕ) →
-    r ≡ slice_cmp nat_cmp x y →
-    x ≡ v →
-    y ≡ w →
-    r ≡ slice_cmp nat_cmp v w
-order_at v w e f g = rw (← f, ← g) e
+    pub probe_right : (n : ℕ) → hi < n + lo → (k ≡ 1 → ⊥) → (k ≡ 0 → ⊥) → (m : ℕ) × (hi < m + (lo + (hi - lo) / 2 + 1)) × (probe_from n t f w lo hi ≡ probe_from m t f w (lo + (hi - lo) / 2 + 1) hi)
+    unfolding probe_from
+    probe_right zero b q z = absurd (omega arith)
+    probe_right (suc n) b q z = (n, omega arith, rw (lt-ltb lo hi h, ne_eqb (order_at t (get_or f (lo + (hi - lo) / 2) 0) w) 1 (λ x. q (e ∙ x)), ne_eqb (order_at t (get_or f (lo + (hi - lo) / 2) 0) w) 0 (λ x. z (e ∙ x)), probe_from))
+
+-- past the records that are found, no word was held that is not found
+abbrev pub Past : List ℕ → List ℕ → ℕ → ℕ → Type 0
+Past t f m i = (w : List ℕ) → probe_of t f w ≡ false → held_in t w ≡ held_from m t i w
+
+-- a word that is found and one that is not are not the same
+apart : (t f : List ℕ) (w x : List ℕ) → probe_of t f w ≡ false → probe_of t f x ≡ true → same w x ≡ false
+apart t f w x p q = not_same w x (λ e. false≢true (sym p ∙ ap (probe_of t f) e ∙ q))
+
+pub past_more :
+    (m : ℕ) (t f : List ℕ) (i : ℕ) →
+    length t < m + i →
+    i ≤ length t →
+    after_at t i ≤ length t →
+    probe_of t f (word_at t i) ≡ true →
+    Past t f m i →
+    (o : ℕ) × (length t < o + after_at t i) × Past t f o (after_at t i)
+past_more zero t f i b l h q g = absurd (omega arith)
+past_more (suc m) t f i b l h q g = (m, omega arith, λ w z. g w z ∙ held_next m t i w h (apart t f w (word_at t i) z q))

@@ -1,33 +1,35 @@
--- What an index of the word table must do.
-use Rattle.std.specs.Prelude.{ℕ, ◌<◌, false, cond, List, [], ◌≡◌, ◌≢◌, length, get_or, leb, All}
-use Rattle.std.specs.Cmp.Lexicographic.{slice_cmp}
-use Rattle.std.specs.Ordering.{nat_cmp}
-use Rattle.std.specs.List.Sorted.{IsSorted}
+-- A search through an index of the word table, step by step as the code makes it; and what an index must do.
+use Rattle.std.specs.Prelude.{ℕ, zero, suc, ◌+◌, ◌-◌, ◌/◌, ◌<◌, Bool, true, false, cond, List, [], ◌∷◌, ◌≡◌, length, get_or, eqb, ltb}
 use Rattle.quanta_words.specs.Words.{after_at, word_at, held_in}
 
--- the word of the record at i, and none where no whole record is
-unfoldable pub entry : List ℕ → ℕ → List ℕ
-entry t i = cond (leb (after_at t i) (length t)) (word_at t i) []
+-- 0, 1 or 2: the first comes before the second, is it, comes after it
+unfoldable pub order_of : List ℕ → List ℕ → ℕ
+order_of [] [] = 1
+order_of [] (y ∷ ys) = 0
+order_of (x ∷ xs) [] = 2
+order_of (x ∷ xs) (y ∷ ys) = cond (ltb x y) 0 (cond (ltb y x) 2 (order_of xs ys))
 
--- the places are in the order of their words
-abbrev pub Ordered : List ℕ → List ℕ → Type 0
-Ordered t f = IsSorted (λ i j. slice_cmp nat_cmp (entry t i) (entry t j)) f
+-- a word against the word of the record at i
+unfoldable pub order_at : List ℕ → ℕ → List ℕ → ℕ
+order_at t i w = cond (ltb (length t) i) 2 (cond (ltb (length t) (after_at t i)) 2 (order_of w (word_at t i)))
 
--- a word is at a place of the list, or at none
-abbrev pub Found : List ℕ → List ℕ → List ℕ → Type 0
-Found t f w = (k : ℕ) × (k < length f) × (entry t (get_or f k 0) ≡ w)
+-- halving the part from lo to hi
+unfoldable pub probe_from : ℕ → List ℕ → List ℕ → List ℕ → ℕ → ℕ → Bool
+probe_from zero t f w lo hi = false
+probe_from (suc n) t f w lo hi =
+    let mid = lo + (hi - lo) / 2 in
+    let k = order_at t (get_or f mid 0) w in
+    elim (ltb lo hi) [
+      | true ↦ elim (eqb k 1) [ true ↦ true | false ↦ elim (eqb k 0) [ true ↦ probe_from n t f w lo mid | false ↦ probe_from n t f w (mid + 1) hi ] ]
+      | false ↦ false
+    ]
 
-abbrev pub Unfound : List ℕ → List ℕ → List ℕ → Type 0
-Unfound t f w = All (λ i. entry t i ≢ w) f
+unfoldable pub probe_of : List ℕ → List ℕ → List ℕ → Bool
+probe_of t f w = probe_from (suc (length f)) t f w 0 (length f)
 
--- a word that is at no place of the list is not in the table
-abbrev pub Lists : List ℕ → List ℕ → Type 0
-Lists t f = (w : List ℕ) → Unfound t f w → held_in t w ≡ false
-
--- the places are in the order of their words, and each word of the table is at one of them
-pub record Covers (t f : List ℕ) : Type 0 where
-  pub sorted : Ordered t f
-  pub lists : Lists t f
+-- a word that is not found is not in the table
+abbrev pub Covers : List ℕ → List ℕ → Type 0
+Covers t f = (w : List ℕ) → probe_of t f w ≡ false → held_in t w ≡ false
 
 -- an index is empty or covers the table
 abbrev pub Indexed : List ℕ → List ℕ → Type 0

@@ -1,40 +1,87 @@
-// An index of the word table: the places of its records, sorted by their words, so that a word is looked for in few steps.
-ghost use Rattle.std.specs.Prelude.{◌≡◌, true, false, ◌≤◌, ◌<◌, length, take};
-ghost use Rattle.quanta_words.specs.Index.{entry, Ordered, Found, Unfound, Lists, Indexed};
+// An index of the word table: the places of its records, sorted by their words, so that a word is looked for in few steps. The sorting
+// is not proved to sort: what counts is checked after it, that each word of the table is found through the index.
+ghost use Rattle.std.specs.Prelude.{◌≡◌, true, ◌≤◌, ◌<◌, length, take};
+ghost use Rattle.quanta_words.specs.Index.{order_of, order_at, probe_of, Covers, Indexed};
 
 use crate::words::word_at;
 
-// The word of the record at a place, and none where no whole record is.
-fn entry(table: &[u8], place: u16) -> &[u8]
-    ensures { result.now ≡ entry table.now place }
+// 0, 1 or 2: a comes before b, is b, comes after b.
+fn order(a: &[u8], b: &[u8]) -> u8
+    ensures { result ≡ order_of a.now b.now }
 {
-    match word_at(table, place as usize) {
-        Some(word) => word,
-        None => &[],
+    for i in 0..a.len() {
+        if b.len() <= i {
+            return 2;
+        }
+        if a[i] < b[i] {
+            return 0;
+        }
+        if b[i] < a[i] {
+            return 2;
+        }
+    }
+    if a.len() < b.len() { 0 } else { 1 }
+}
+
+// The order of a word and the word of the record at i; 2 where no record is.
+fn order_at(table: &[u8], i: usize, word: &[u8]) -> u8
+    ensures { result ≡ order_at table.now i word.now }
+{
+    match word_at(table, i) {
+        Some(held) => order(word, held),
+        None => 2,
     }
 }
 
-// Whether the word is at a place of the index, which is in order.
+// Whether the word is found through the index, which is halved at each step.
 pub fn probe(table: &[u8], index: &[u16], word: &[u8]) -> bool
-    ensures found { result ≡ true → Found table.now index.now word.now }
-    ensures unfound { Ordered table.now index.now → result ≡ false → Unfound table.now index.now word.now }
+    ensures { result ≡ probe_of table.now index.now word.now }
 {
-    index
-        .binary_search_by(|place| entry(table, *place).cmp(&word))
-        .is_ok()
+    let mut lo = 0;
+    let mut hi = index.len();
+    while lo < hi {
+        let mid = lo + (hi - lo) / 2;
+        let k = order_at(table, usize::from(index[mid]), word);
+        if k == 1 {
+            return true;
+        }
+        if k == 0 {
+            hi = mid;
+        } else {
+            lo = mid + 1;
+        }
+    }
+    false
 }
 
-// The places of the records, and how many there are; or 0 where there is no room for one.
+// Whether each word of the table is found through the index.
+fn covers(table: &[u8], index: &[u16]) -> bool
+    ensures { result ≡ true → Covers table.now index.now }
+{
+    let mut i = 0;
+    while let Some(word) = word_at(table, i) {
+        if !probe(table, index, word) {
+            return false;
+        }
+        i += 3 + word.len();
+    }
+    true
+}
+
+// The word of the record at a place, and none where no whole record is.
+fn entry(table: &[u8], place: u16) -> &[u8] {
+    word_at(table, usize::from(place)).unwrap_or_default()
+}
+
+// The places of the records in order, as far as there is room; and how many there are.
 fn places(table: &[u8], index: &mut [u16]) -> usize
-    ensures within { result ≤ length index.old }
-    ensures kept { length index.new ≡ length index.old }
-    ensures lists { 0 < result → Lists table.now (take result index.new) }
+    ensures { result ≤ length index.old }
 {
     let mut n = 0;
     let mut i = 0;
     while let Some(word) = word_at(table, i) {
         if 65535 < i || index.len() <= n {
-            return 0;
+            return n;
         }
         index[n] = i as u16;
         n += 1;
@@ -43,11 +90,42 @@ fn places(table: &[u8], index: &mut [u16]) -> usize
     n
 }
 
+// Keeps the entry at k behind the one at `last`, unless their words are the same; and the last that is kept.
+fn keep(table: &[u8], index: &mut [u16], last: usize, k: usize) -> usize
+    requires { (last < k) × (k < length index.old) }
+    ensures { result ≤ k }
+{
+    if entry(table, index[last]) == entry(table, index[k]) {
+        return last;
+    }
+    index.swap(last + 1, k);
+    last + 1
+}
+
+// Keeps one entry of each word among n sorted ones; and how many are kept.
+fn unique(table: &[u8], index: &mut [u16], n: usize) -> usize
+    requires { n ≤ length index.old }
+    ensures { result ≤ n }
+{
+    if n == 0 {
+        return 0;
+    }
+    let mut last = 0;
+    for k in 1..n {
+        last = keep(table, index, last, k);
+    }
+    last + 1
+}
+
 // The places of the records, sorted by their words; and how many there are, or 0 where the room is too small.
 pub fn index_words(table: &[u8], index: &mut [u16]) -> usize
     ensures { (result ≤ length index.new) × Indexed table.now (take result index.new) }
 {
     let n = places(table, index);
     index[..n].sort_unstable_by(|a, b| entry(table, *a).cmp(&entry(table, *b)));
-    n
+    let m = unique(table, index, n);
+    if covers(table, &index[..m]) {
+        return m;
+    }
+    0
 }

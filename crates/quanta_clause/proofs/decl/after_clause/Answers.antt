@@ -5,14 +5,11 @@ use native.Mathlib.Omega.{arith}
 use Rattle.quanta_token.specs.declared.edition.Edition.TheVariants.{One}
 use Rattle.quanta_grammar.specs.Productions.{expr}
 use Rattle.quanta_grammar.specs.Refine.{text}
-use Rattle.quanta_cursor.proofs.Places.{took_ready, ready_small}
+use Rattle.quanta_cursor.proofs.Places.{took_ready}
 use Rattle.quanta_cursor.proofs.Meeting.{took, took_of, failed_of, fails}
-use Rattle.quanta_clause.proofs.Clauses.{target_of_lem, untargeted, after_past, after_bad, target_ready, target_few}
+use Rattle.quanta_clause.proofs.Clauses.{target_of_lem, untargeted, after_bad, target_ready, target_few}
 use Rattle.quanta_clause.proofs.Clauses.{after_plain, from_past, from_bad, from_took}
 use Rattle.quanta_clause.proofs.decl.after_clause.Goals as goal
-
-pub after_target-requires : goal.after_target-requires
-after_target-requires c = after_past c.bump.ensures c.requires
 
 pub peek-requires : goal.peek-requires
 peek-requires c =
@@ -29,11 +26,6 @@ returns-then-peek-ne-FROM c = λ e.
     let target = target_of_lem (c.after_target.ensures e) c.in_ok-target.was in
     took (after_plain (text e c.args.src.now) c.args.allowance c.bump.ensures c.requires target
     (λ z. c.if-peek-ne-FROM.true (c.peek.ensures ∙ z)) c.end_after.ensures)
-
-pub bump-requires-2 : goal.bump-requires-2
-bump-requires-2 c =
-    let target = target_of_lem (c.after_target.ensures One) c.in_ok-target.was in
-    ready_small (target_ready (text One c.args.src.now) c.args.allowance c.bump.ensures c.requires target)
 
 pub expr-requires : goal.expr-requires
 expr-requires c =

@@ -7,9 +7,6 @@ use Rattle.quanta_cursor.proofs.Meeting.{took, took_of, failed_of, fails}
 use Rattle.quanta_clause.proofs.Clauses.{expr_past, expr_bad, expr_took}
 use Rattle.quanta_clause.proofs.decl.expr_clause.Goals as goal
 
-pub expr-requires : goal.expr-requires
-expr-requires c = expr_past c.bump.ensures c.requires
-
 pub end_clause-requires : goal.end_clause-requires
 end_clause-requires c =
     let value = took_of c.in_ok-value.was (c.expr.ensures blank) in

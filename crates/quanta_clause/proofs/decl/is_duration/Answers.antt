@@ -1,18 +1,11 @@
 -- `quanta_clause::decl::is_duration` meets its contract.
 -- Assumes nothing.
 use mathlib.Core.Path.{sym, ◌∙◌}
-use native.Mathlib.Omega.{arith}
 use borrow.Author.Tests.{ne_eqb}
 use Rattle.quanta_token.specs.TokenKind.{code, Int}
 use Rattle.quanta_grammar.specs.Refine.{text}
-use Rattle.quanta_cursor.proofs.Places.{past_as}
 use Rattle.quanta_clause.proofs.Units.{no_duration, some_duration}
 use Rattle.quanta_clause.proofs.decl.is_duration.Goals as goal
-
-pub is_unit-requires : goal.is_unit-requires
-is_unit-requires c =
-    let int = sym c.peek.ensures ∙ c.if-peek-eq-INT.true in
-    (c.requires.0, omega (arith, c.bump.ensures, past_as (code Int) (λ u. u) c.requires.0 c.requires.1 int))
 
 pub returns-then-peek-eq-INT : goal.returns-then-peek-eq-INT
 returns-then-peek-eq-INT c = λ e.

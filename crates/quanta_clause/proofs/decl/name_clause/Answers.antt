@@ -1,15 +1,8 @@
 -- `quanta_clause::decl::name_clause` meets its contract.
 -- Assumes nothing.
 use Rattle.quanta_cursor.proofs.Meeting.{took, fails}
-use Rattle.quanta_clause.proofs.Clauses.{name_past, name_bad, name_ready, name_took}
+use Rattle.quanta_clause.proofs.Clauses.{name_bad, name_took}
 use Rattle.quanta_clause.proofs.decl.name_clause.Goals as goal
-
-pub expect_ident-requires : goal.expect_ident-requires
-expect_ident-requires c = name_past c.bump.ensures c.requires
-
-pub end_clause-requires : goal.end_clause-requires
-end_clause-requires c =
-    (c.requires.0.inside, name_ready c.bump.ensures c.requires c.expect_ident.ensures c.in_ok-asset.was)
 
 pub returns-in_err-asset : goal.returns-in_err-asset
 returns-in_err-asset c = λ src a.

@@ -16,7 +16,7 @@ use Rattle.quanta_cursor.proofs.Meeting.{took, failed, fails, took_all, fails_al
 use Rattle.quanta_cursor.proofs.Meeting.{left_of, spent_of, next_of, lacks_of}
 use Rattle.quanta_cursor.proofs.Lists.{rolling_in, rolling_on, rolled, arguments}
 use Rattle.quanta_cursor.proofs.Lists.{comma_on, comma_bad, comma_stop, took_more}
-use Rattle.quanta_expr.proofs.Tables.{flagged_at, unflagged_at, leaf_at, no_leaf_at}
+use Rattle.quanta_expr.proofs.Tables.{op_at, no_op_at, leaf_at, no_leaf_at}
 use Rattle.quanta_expr.proofs.Chains.{no_shift, operates}
 use Rattle.quanta_expr.proofs.Loops.{level_refused, level_begins, level_ends, level_deep, level_unread, level_folds}
 use Rattle.quanta_expr.proofs.Loops.{level_goes, suffixes_refused, suffixes_begin, suffixes_end}
@@ -122,77 +122,77 @@ pub equality-returns-in_err-left : goal.equality-returns-in_err-left
 equality-returns-in_err-left t c =
     level_refused pr.equality _ _ c.comparison.ensures c.in_err-left.was c.from_residual.ensures.1
 
-pub equality-loop-left-init : goal.equality-loop-left-init
-equality-loop-left-init t c = level_begins pr.equality _ _ c.comparison.ensures c.in_ok-left.was c.requires
+pub equality-loop-op-init : goal.equality-loop-op-init
+equality-loop-op-init t c = level_begins pr.equality _ _ c.comparison.ensures c.in_ok-left.was c.requires
 
-pub equality-returns-then-op-eq-NO_OP : goal.equality-returns-then-op-eq-NO_OP
-equality-returns-then-op-eq-NO_OP t c =
-    level_ends pr.equality _ _ c.comparison.ensures c.in_ok-left.was c.loop-left.invariant
-    (unflagged_at (operators pr.equality) binary_node c.peek.ensures c.equality_op-op.ensures c.if-op-eq-NO_OP.true)
+pub equality-returns-in_default : goal.equality-returns-in_default
+equality-returns-in_default t c =
+    level_ends pr.equality _ _ c.comparison.ensures c.in_ok-left.was c.loop-op.invariant
+    (no_op_at (operators pr.equality) binary_node c.peek.ensures c.equality_op.ensures c.in_default.is)
 
 pub equality-returns-in_err-depth : goal.equality-returns-in_err-depth
 equality-returns-in_err-depth t c =
-    level_deep pr.equality _ _ c.comparison.ensures c.in_ok-left.was c.loop-left.invariant
-    (flagged_at (operators pr.equality) binary_node c.peek.ensures c.equality_op-op.ensures c.if-op-eq-NO_OP.false)
+    level_deep pr.equality _ _ c.comparison.ensures c.in_ok-left.was c.loop-op.invariant
+    (op_at (operators pr.equality) binary_node c.peek.ensures c.equality_op.ensures c.in-Some.is)
     c.bump-next.ensures c.enter.ensures c.in_err-depth.was c.from_residual-in_err-depth.ensures.1
 
 pub equality-returns-in_err-right : goal.equality-returns-in_err-right
 equality-returns-in_err-right t c =
-    level_unread pr.equality _ _ c.comparison.ensures c.in_ok-left.was c.loop-left.invariant
-    (flagged_at (operators pr.equality) binary_node c.peek.ensures c.equality_op-op.ensures c.if-op-eq-NO_OP.false)
-    c.bump-next.ensures c.enter.ensures c.in_ok-depth.was c.comparison-in-loop-left.ensures c.in_err-right.was
+    level_unread pr.equality _ _ c.comparison.ensures c.in_ok-left.was c.loop-op.invariant
+    (op_at (operators pr.equality) binary_node c.peek.ensures c.equality_op.ensures c.in-Some.is)
+    c.bump-next.ensures c.enter.ensures c.in_ok-depth.was c.comparison-in-loop-op.ensures c.in_err-right.was
     c.from_residual-in_err-right.ensures.1
 
 pub equality-fold-left-requires : goal.equality-fold-left-requires
 equality-fold-left-requires t c =
-    level_folds pr.equality _ _ c.comparison.ensures c.in_ok-left.was c.loop-left.invariant
-    (flagged_at (operators pr.equality) binary_node c.peek.ensures c.equality_op-op.ensures c.if-op-eq-NO_OP.false)
-    c.bump-next.ensures c.enter.ensures c.in_ok-depth.was c.comparison-in-loop-left.ensures c.in_ok-right.was
+    level_folds pr.equality _ _ c.comparison.ensures c.in_ok-left.was c.loop-op.invariant
+    (op_at (operators pr.equality) binary_node c.peek.ensures c.equality_op.ensures c.in-Some.is)
+    c.bump-next.ensures c.enter.ensures c.in_ok-depth.was c.comparison-in-loop-op.ensures c.in_ok-right.was
 
-pub equality-loop-left-preserved : goal.equality-loop-left-preserved
-equality-loop-left-preserved t c =
-    level_goes pr.equality _ _ c.comparison.ensures c.in_ok-left.was c.loop-left.invariant
-    (flagged_at (operators pr.equality) binary_node c.peek.ensures c.equality_op-op.ensures c.if-op-eq-NO_OP.false)
-    c.bump-next.ensures c.enter.ensures c.in_ok-depth.was c.comparison-in-loop-left.ensures c.in_ok-right.was
-    c.fold-left.ensures.0 c.fold-left.ensures.1 (c.fold-left.auto.tree ∙ c.comparison-in-loop-left.auto.tree)
+pub equality-loop-op-preserved : goal.equality-loop-op-preserved
+equality-loop-op-preserved t c =
+    level_goes pr.equality _ _ c.comparison.ensures c.in_ok-left.was c.loop-op.invariant
+    (op_at (operators pr.equality) binary_node c.peek.ensures c.equality_op.ensures c.in-Some.is)
+    c.bump-next.ensures c.enter.ensures c.in_ok-depth.was c.comparison-in-loop-op.ensures c.in_ok-right.was
+    c.fold-left.ensures.0 c.fold-left.ensures.1 (c.fold-left.auto.tree ∙ c.comparison-in-loop-op.auto.tree)
 
 pub comparison-returns-in_err-left : goal.comparison-returns-in_err-left
 comparison-returns-in_err-left t c =
     level_refused pr.comparison _ _ c.shift.ensures c.in_err-left.was c.from_residual.ensures.1
 
-pub comparison-loop-left-init : goal.comparison-loop-left-init
-comparison-loop-left-init t c = level_begins pr.comparison _ _ c.shift.ensures c.in_ok-left.was c.requires
+pub comparison-loop-op-init : goal.comparison-loop-op-init
+comparison-loop-op-init t c = level_begins pr.comparison _ _ c.shift.ensures c.in_ok-left.was c.requires
 
-pub comparison-returns-then-op-eq-NO_OP : goal.comparison-returns-then-op-eq-NO_OP
-comparison-returns-then-op-eq-NO_OP t c =
-    level_ends pr.comparison _ _ c.shift.ensures c.in_ok-left.was c.loop-left.invariant
-    (unflagged_at (operators pr.comparison) binary_node c.peek.ensures c.comparison_op-op.ensures c.if-op-eq-NO_OP.true)
+pub comparison-returns-in_default : goal.comparison-returns-in_default
+comparison-returns-in_default t c =
+    level_ends pr.comparison _ _ c.shift.ensures c.in_ok-left.was c.loop-op.invariant
+    (no_op_at (operators pr.comparison) binary_node c.peek.ensures c.comparison_op.ensures c.in_default.is)
 
 pub comparison-returns-in_err-depth : goal.comparison-returns-in_err-depth
 comparison-returns-in_err-depth t c =
-    level_deep pr.comparison _ _ c.shift.ensures c.in_ok-left.was c.loop-left.invariant
-    (flagged_at (operators pr.comparison) binary_node c.peek.ensures c.comparison_op-op.ensures c.if-op-eq-NO_OP.false)
+    level_deep pr.comparison _ _ c.shift.ensures c.in_ok-left.was c.loop-op.invariant
+    (op_at (operators pr.comparison) binary_node c.peek.ensures c.comparison_op.ensures c.in-Some.is)
     c.bump-next.ensures c.enter.ensures c.in_err-depth.was c.from_residual-in_err-depth.ensures.1
 
 pub comparison-returns-in_err-right : goal.comparison-returns-in_err-right
 comparison-returns-in_err-right t c =
-    level_unread pr.comparison _ _ c.shift.ensures c.in_ok-left.was c.loop-left.invariant
-    (flagged_at (operators pr.comparison) binary_node c.peek.ensures c.comparison_op-op.ensures c.if-op-eq-NO_OP.false)
-    c.bump-next.ensures c.enter.ensures c.in_ok-depth.was c.shift-in-loop-left.ensures c.in_err-right.was
+    level_unread pr.comparison _ _ c.shift.ensures c.in_ok-left.was c.loop-op.invariant
+    (op_at (operators pr.comparison) binary_node c.peek.ensures c.comparison_op.ensures c.in-Some.is)
+    c.bump-next.ensures c.enter.ensures c.in_ok-depth.was c.shift-in-loop-op.ensures c.in_err-right.was
     c.from_residual-in_err-right.ensures.1
 
 pub comparison-fold-left-requires : goal.comparison-fold-left-requires
 comparison-fold-left-requires t c =
-    level_folds pr.comparison _ _ c.shift.ensures c.in_ok-left.was c.loop-left.invariant
-    (flagged_at (operators pr.comparison) binary_node c.peek.ensures c.comparison_op-op.ensures c.if-op-eq-NO_OP.false)
-    c.bump-next.ensures c.enter.ensures c.in_ok-depth.was c.shift-in-loop-left.ensures c.in_ok-right.was
+    level_folds pr.comparison _ _ c.shift.ensures c.in_ok-left.was c.loop-op.invariant
+    (op_at (operators pr.comparison) binary_node c.peek.ensures c.comparison_op.ensures c.in-Some.is)
+    c.bump-next.ensures c.enter.ensures c.in_ok-depth.was c.shift-in-loop-op.ensures c.in_ok-right.was
 
-pub comparison-loop-left-preserved : goal.comparison-loop-left-preserved
-comparison-loop-left-preserved t c =
-    level_goes pr.comparison _ _ c.shift.ensures c.in_ok-left.was c.loop-left.invariant
-    (flagged_at (operators pr.comparison) binary_node c.peek.ensures c.comparison_op-op.ensures c.if-op-eq-NO_OP.false)
-    c.bump-next.ensures c.enter.ensures c.in_ok-depth.was c.shift-in-loop-left.ensures c.in_ok-right.was
-    c.fold-left.ensures.0 c.fold-left.ensures.1 (c.fold-left.auto.tree ∙ c.shift-in-loop-left.auto.tree)
+pub comparison-loop-op-preserved : goal.comparison-loop-op-preserved
+comparison-loop-op-preserved t c =
+    level_goes pr.comparison _ _ c.shift.ensures c.in_ok-left.was c.loop-op.invariant
+    (op_at (operators pr.comparison) binary_node c.peek.ensures c.comparison_op.ensures c.in-Some.is)
+    c.bump-next.ensures c.enter.ensures c.in_ok-depth.was c.shift-in-loop-op.ensures c.in_ok-right.was
+    c.fold-left.ensures.0 c.fold-left.ensures.1 (c.fold-left.auto.tree ∙ c.shift-in-loop-op.auto.tree)
 
 pub shift-returns-in_err-left : goal.shift-returns-in_err-left
 shift-returns-in_err-left t c =
@@ -236,93 +236,93 @@ pub additive-returns-in_err-left : goal.additive-returns-in_err-left
 additive-returns-in_err-left t c =
     level_refused pr.additive _ _ c.multiplicative.ensures c.in_err-left.was c.from_residual.ensures.1
 
-pub additive-loop-left-init : goal.additive-loop-left-init
-additive-loop-left-init t c = level_begins pr.additive _ _ c.multiplicative.ensures c.in_ok-left.was c.requires
+pub additive-loop-op-init : goal.additive-loop-op-init
+additive-loop-op-init t c = level_begins pr.additive _ _ c.multiplicative.ensures c.in_ok-left.was c.requires
 
-pub additive-returns-then-op-eq-NO_OP : goal.additive-returns-then-op-eq-NO_OP
-additive-returns-then-op-eq-NO_OP t c =
-    level_ends pr.additive _ _ c.multiplicative.ensures c.in_ok-left.was c.loop-left.invariant
-    (unflagged_at (operators pr.additive) binary_node c.peek.ensures c.additive_op-op.ensures c.if-op-eq-NO_OP.true)
+pub additive-returns-in_default : goal.additive-returns-in_default
+additive-returns-in_default t c =
+    level_ends pr.additive _ _ c.multiplicative.ensures c.in_ok-left.was c.loop-op.invariant
+    (no_op_at (operators pr.additive) binary_node c.peek.ensures c.additive_op.ensures c.in_default.is)
 
 pub additive-returns-in_err-depth : goal.additive-returns-in_err-depth
 additive-returns-in_err-depth t c =
-    level_deep pr.additive _ _ c.multiplicative.ensures c.in_ok-left.was c.loop-left.invariant
-    (flagged_at (operators pr.additive) binary_node c.peek.ensures c.additive_op-op.ensures c.if-op-eq-NO_OP.false)
+    level_deep pr.additive _ _ c.multiplicative.ensures c.in_ok-left.was c.loop-op.invariant
+    (op_at (operators pr.additive) binary_node c.peek.ensures c.additive_op.ensures c.in-Some.is)
     c.bump-next.ensures c.enter.ensures c.in_err-depth.was c.from_residual-in_err-depth.ensures.1
 
 pub additive-returns-in_err-right : goal.additive-returns-in_err-right
 additive-returns-in_err-right t c =
-    level_unread pr.additive _ _ c.multiplicative.ensures c.in_ok-left.was c.loop-left.invariant
-    (flagged_at (operators pr.additive) binary_node c.peek.ensures c.additive_op-op.ensures c.if-op-eq-NO_OP.false)
-    c.bump-next.ensures c.enter.ensures c.in_ok-depth.was c.multiplicative-in-loop-left.ensures c.in_err-right.was
+    level_unread pr.additive _ _ c.multiplicative.ensures c.in_ok-left.was c.loop-op.invariant
+    (op_at (operators pr.additive) binary_node c.peek.ensures c.additive_op.ensures c.in-Some.is)
+    c.bump-next.ensures c.enter.ensures c.in_ok-depth.was c.multiplicative-in-loop-op.ensures c.in_err-right.was
     c.from_residual-in_err-right.ensures.1
 
 pub additive-fold-left-requires : goal.additive-fold-left-requires
 additive-fold-left-requires t c =
-    level_folds pr.additive _ _ c.multiplicative.ensures c.in_ok-left.was c.loop-left.invariant
-    (flagged_at (operators pr.additive) binary_node c.peek.ensures c.additive_op-op.ensures c.if-op-eq-NO_OP.false)
-    c.bump-next.ensures c.enter.ensures c.in_ok-depth.was c.multiplicative-in-loop-left.ensures c.in_ok-right.was
+    level_folds pr.additive _ _ c.multiplicative.ensures c.in_ok-left.was c.loop-op.invariant
+    (op_at (operators pr.additive) binary_node c.peek.ensures c.additive_op.ensures c.in-Some.is)
+    c.bump-next.ensures c.enter.ensures c.in_ok-depth.was c.multiplicative-in-loop-op.ensures c.in_ok-right.was
 
-pub additive-loop-left-preserved : goal.additive-loop-left-preserved
-additive-loop-left-preserved t c =
-    level_goes pr.additive _ _ c.multiplicative.ensures c.in_ok-left.was c.loop-left.invariant
-    (flagged_at (operators pr.additive) binary_node c.peek.ensures c.additive_op-op.ensures c.if-op-eq-NO_OP.false)
-    c.bump-next.ensures c.enter.ensures c.in_ok-depth.was c.multiplicative-in-loop-left.ensures c.in_ok-right.was
-    c.fold-left.ensures.0 c.fold-left.ensures.1 (c.fold-left.auto.tree ∙ c.multiplicative-in-loop-left.auto.tree)
+pub additive-loop-op-preserved : goal.additive-loop-op-preserved
+additive-loop-op-preserved t c =
+    level_goes pr.additive _ _ c.multiplicative.ensures c.in_ok-left.was c.loop-op.invariant
+    (op_at (operators pr.additive) binary_node c.peek.ensures c.additive_op.ensures c.in-Some.is)
+    c.bump-next.ensures c.enter.ensures c.in_ok-depth.was c.multiplicative-in-loop-op.ensures c.in_ok-right.was
+    c.fold-left.ensures.0 c.fold-left.ensures.1 (c.fold-left.auto.tree ∙ c.multiplicative-in-loop-op.auto.tree)
 
 pub multiplicative-returns-in_err-left : goal.multiplicative-returns-in_err-left
 multiplicative-returns-in_err-left t c =
     level_refused pr.multiplicative _ _ c.unary.ensures c.in_err-left.was c.from_residual.ensures.1
 
-pub multiplicative-loop-left-init : goal.multiplicative-loop-left-init
-multiplicative-loop-left-init t c = level_begins pr.multiplicative _ _ c.unary.ensures c.in_ok-left.was c.requires
+pub multiplicative-loop-op-init : goal.multiplicative-loop-op-init
+multiplicative-loop-op-init t c = level_begins pr.multiplicative _ _ c.unary.ensures c.in_ok-left.was c.requires
 
-pub multiplicative-returns-then-op-eq-NO_OP : goal.multiplicative-returns-then-op-eq-NO_OP
-multiplicative-returns-then-op-eq-NO_OP t c =
-    level_ends pr.multiplicative _ _ c.unary.ensures c.in_ok-left.was c.loop-left.invariant
-    (unflagged_at (operators pr.multiplicative) binary_node c.peek.ensures c.multiplicative_op-op.ensures
-    c.if-op-eq-NO_OP.true)
+pub multiplicative-returns-in_default : goal.multiplicative-returns-in_default
+multiplicative-returns-in_default t c =
+    level_ends pr.multiplicative _ _ c.unary.ensures c.in_ok-left.was c.loop-op.invariant
+    (no_op_at (operators pr.multiplicative) binary_node c.peek.ensures c.multiplicative_op.ensures
+    c.in_default.is)
 
 pub multiplicative-returns-in_err-depth : goal.multiplicative-returns-in_err-depth
 multiplicative-returns-in_err-depth t c =
-    level_deep pr.multiplicative _ _ c.unary.ensures c.in_ok-left.was c.loop-left.invariant
-    (flagged_at (operators pr.multiplicative) binary_node c.peek.ensures c.multiplicative_op-op.ensures
-    c.if-op-eq-NO_OP.false)
+    level_deep pr.multiplicative _ _ c.unary.ensures c.in_ok-left.was c.loop-op.invariant
+    (op_at (operators pr.multiplicative) binary_node c.peek.ensures c.multiplicative_op.ensures
+    c.in-Some.is)
     c.bump-next.ensures c.enter.ensures c.in_err-depth.was c.from_residual-in_err-depth.ensures.1
 
 pub multiplicative-returns-in_err-right : goal.multiplicative-returns-in_err-right
 multiplicative-returns-in_err-right t c =
-    level_unread pr.multiplicative _ _ c.unary.ensures c.in_ok-left.was c.loop-left.invariant
-    (flagged_at (operators pr.multiplicative) binary_node c.peek.ensures c.multiplicative_op-op.ensures
-    c.if-op-eq-NO_OP.false)
-    c.bump-next.ensures c.enter.ensures c.in_ok-depth.was c.unary-in-loop-left.ensures c.in_err-right.was
+    level_unread pr.multiplicative _ _ c.unary.ensures c.in_ok-left.was c.loop-op.invariant
+    (op_at (operators pr.multiplicative) binary_node c.peek.ensures c.multiplicative_op.ensures
+    c.in-Some.is)
+    c.bump-next.ensures c.enter.ensures c.in_ok-depth.was c.unary-in-loop-op.ensures c.in_err-right.was
     c.from_residual-in_err-right.ensures.1
 
 pub multiplicative-fold-left-requires : goal.multiplicative-fold-left-requires
 multiplicative-fold-left-requires t c =
-    level_folds pr.multiplicative _ _ c.unary.ensures c.in_ok-left.was c.loop-left.invariant
-    (flagged_at (operators pr.multiplicative) binary_node c.peek.ensures c.multiplicative_op-op.ensures
-    c.if-op-eq-NO_OP.false)
-    c.bump-next.ensures c.enter.ensures c.in_ok-depth.was c.unary-in-loop-left.ensures c.in_ok-right.was
+    level_folds pr.multiplicative _ _ c.unary.ensures c.in_ok-left.was c.loop-op.invariant
+    (op_at (operators pr.multiplicative) binary_node c.peek.ensures c.multiplicative_op.ensures
+    c.in-Some.is)
+    c.bump-next.ensures c.enter.ensures c.in_ok-depth.was c.unary-in-loop-op.ensures c.in_ok-right.was
 
-pub multiplicative-loop-left-preserved : goal.multiplicative-loop-left-preserved
-multiplicative-loop-left-preserved t c =
-    level_goes pr.multiplicative _ _ c.unary.ensures c.in_ok-left.was c.loop-left.invariant
-    (flagged_at (operators pr.multiplicative) binary_node c.peek.ensures c.multiplicative_op-op.ensures
-    c.if-op-eq-NO_OP.false)
-    c.bump-next.ensures c.enter.ensures c.in_ok-depth.was c.unary-in-loop-left.ensures c.in_ok-right.was
-    c.fold-left.ensures.0 c.fold-left.ensures.1 (c.fold-left.auto.tree ∙ c.unary-in-loop-left.auto.tree)
+pub multiplicative-loop-op-preserved : goal.multiplicative-loop-op-preserved
+multiplicative-loop-op-preserved t c =
+    level_goes pr.multiplicative _ _ c.unary.ensures c.in_ok-left.was c.loop-op.invariant
+    (op_at (operators pr.multiplicative) binary_node c.peek.ensures c.multiplicative_op.ensures
+    c.in-Some.is)
+    c.bump-next.ensures c.enter.ensures c.in_ok-depth.was c.unary-in-loop-op.ensures c.in_ok-right.was
+    c.fold-left.ensures.0 c.fold-left.ensures.1 (c.fold-left.auto.tree ∙ c.unary-in-loop-op.auto.tree)
 
 -- A PREFIX
-pub unary-returns-then-op-eq-NO_OP : goal.unary-returns-then-op-eq-NO_OP
-unary-returns-then-op-eq-NO_OP t c =
+pub unary-returns-in_default : goal.unary-returns-in_default
+unary-returns-in_default t c =
     λ src. unary_plain src c.args.tokens.now c.args.at.0 c.args.allowance c.requires.inside
-    (unflagged_at prefixes unary_node c.peek.ensures c.prefix_op-op.ensures c.if-op-eq-NO_OP.true)
+    (no_op_at prefixes unary_node c.peek.ensures c.prefix_op.ensures c.in_default.is)
     (c.postfix.ensures src)
 
 pub unary-returns-in_err-less : goal.unary-returns-in_err-less
 unary-returns-in_err-less t c =
-    λ src. let w = (flagged_at prefixes unary_node c.peek.ensures c.prefix_op-op.ensures c.if-op-eq-NO_OP.false) in
+    λ src. let w = (op_at prefixes unary_node c.peek.ensures c.prefix_op.ensures c.in-Some.is) in
     fails c.from_residual.ensures.1
     (unary_deep src c.args.tokens.now c.args.at.0 c.args.allowance c.requires.inside w c.bump-next.ensures
     (prefix_past c.requires w) (spent_of c.in_err-less.was c.enter.ensures))
@@ -331,14 +331,14 @@ pub unary-returns-in_err-inner : goal.unary-returns-in_err-inner
 unary-returns-in_err-inner t c =
     λ src. fails c.from_residual-in_err-inner.ensures.1
     (unary_bad src c.args.tokens.now c.args.at.0 c.args.allowance c.requires.inside
-    (flagged_at prefixes unary_node c.peek.ensures c.prefix_op-op.ensures c.if-op-eq-NO_OP.false) c.bump-next.ensures
+    (op_at prefixes unary_node c.peek.ensures c.prefix_op.ensures c.in-Some.is) c.bump-next.ensures
     (left_of c.in_ok-less.was c.enter.ensures) (failed_of c.in_err-inner.was (c.unary.ensures src)))
 
 pub unary-prefix-requires : goal.unary-prefix-requires
 unary-prefix-requires t c =
     let k = took_of c.in_ok-inner.was (c.unary.ensures blank) in
     let g = (ready_past c.requires (prefix_past c.requires
-    (flagged_at prefixes unary_node c.peek.ensures c.prefix_op-op.ensures c.if-op-eq-NO_OP.false)) c.bump-next.ensures)
+    (op_at prefixes unary_node c.peek.ensures c.prefix_op.ensures c.in-Some.is)) c.bump-next.ensures)
     in
     let y = took_onward blank pr.unary _ g.inside k in
     (took_ready blank pr.unary _ g k, omega (arith, y.0, c.bump-next.ensures))
@@ -346,7 +346,7 @@ unary-prefix-requires t c =
 pub unary-returns : goal.unary-returns
 unary-returns t c =
     λ src. took (unary_took src c.args.tokens.now c.args.at.0 c.args.allowance c.requires.inside
-    (flagged_at prefixes unary_node c.peek.ensures c.prefix_op-op.ensures c.if-op-eq-NO_OP.false) c.bump-next.ensures
+    (op_at prefixes unary_node c.peek.ensures c.prefix_op.ensures c.in-Some.is) c.bump-next.ensures
     (left_of c.in_ok-less.was c.enter.ensures) (took_of c.in_ok-inner.was (c.unary.ensures src))
     c.prefix.ensures.0 c.prefix.ensures.1)
 
@@ -465,10 +465,10 @@ call_args-loop-at-preserved t c =
     c.expr-in-loop-at.auto.tree
 
 -- A PRIMARY
-pub primary-returns-then-literal-ne-NO_NODE : goal.primary-returns-then-literal-ne-NO_NODE
-primary-returns-then-literal-ne-NO_NODE t c =
+pub primary-returns-in-Some : goal.primary-returns-in-Some
+primary-returns-in-Some t c =
     λ src. took (leaf_took src c.args.tokens.now c.args.at.0 c.args.allowance c.requires.inside c.requires.closed
-    (leaf_at c.peek-kind.ensures c.leaf_kind-literal.ensures c.if-literal-ne-NO_NODE.true) c.leaf.ensures.0
+    (leaf_at c.peek-kind.ensures c.leaf_kind.ensures c.in-Some.is) c.leaf.ensures.0
     c.leaf.ensures.1)
 
 -- in parentheses
@@ -531,8 +531,8 @@ primary-returns-in_ok-inner-in-34 t c =
     (took_ready src pr.expr c.args.allowance g k) c.wrap.ensures
 
 -- none
-pub primary-returns-in_default : goal.primary-returns-in_default
-primary-returns-in_default t c =
+pub primary-returns-in_default-kind : goal.primary-returns-in_default-kind
+primary-returns-in_default-kind t c =
     λ src. failed (primary_none src c.args.tokens.now c.args.at.0 c.args.allowance c.requires.inside c.requires.closed
-    (no_leaf_at c.peek-kind.ensures c.leaf_kind-literal.ensures c.if-literal-ne-NO_NODE.false)
+    (no_leaf_at c.peek-kind.ensures c.leaf_kind.ensures c.in_default.is)
     (λ z. grind (arith, z)) (λ z. grind (arith, z)) (λ z. grind (arith, z)) c.err.ensures)

@@ -42,11 +42,12 @@ decreases-shift l = l.allowance * 16 + 6
 abbrev pub decreases-unary : goal.decreases-unary
 decreases-unary l = l.allowance * 16 + 3
 
-abbrev pub invariant-additive-loop-left : goal.invariant-additive-loop-left
-invariant-additive-loop-left l = Chain (pr.links pr.additive) l.tokens l.initial.left l.initial.depth l.initial.tree l.left l.depth l.tree
+abbrev pub invariant-additive-loop-op : goal.invariant-additive-loop-op
+invariant-additive-loop-op l = Chain (pr.links pr.additive) l.tokens l.initial.left l.initial.depth l.initial.tree
+    l.left l.depth l.tree
 
-abbrev pub decreases-additive-loop-left : goal.decreases-additive-loop-left
-decreases-additive-loop-left l = l.depth
+abbrev pub decreases-additive-loop-op : goal.decreases-additive-loop-op
+decreases-additive-loop-op l = l.depth
 
 abbrev pub invariant-call_args-loop-at : goal.invariant-call_args-loop-at
 invariant-call_args-loop-at l = Rolling pr.more_args l.tokens l.allowance l.initial.at.0 l.initial.no.0 l.initial.count l.initial.tree l.at.0 l.no.0 l.count l.tree
@@ -54,17 +55,19 @@ invariant-call_args-loop-at l = Rolling pr.more_args l.tokens l.allowance l.init
 abbrev pub decreases-call_args-loop-at : goal.decreases-call_args-loop-at
 decreases-call_args-loop-at l = size l.tokens - l.at.0
 
-abbrev pub invariant-comparison-loop-left : goal.invariant-comparison-loop-left
-invariant-comparison-loop-left l = Chain (pr.links pr.comparison) l.tokens l.initial.left l.initial.depth l.initial.tree l.left l.depth l.tree
+abbrev pub invariant-comparison-loop-op : goal.invariant-comparison-loop-op
+invariant-comparison-loop-op l = Chain (pr.links pr.comparison) l.tokens l.initial.left l.initial.depth l.initial.tree
+    l.left l.depth l.tree
 
-abbrev pub decreases-comparison-loop-left : goal.decreases-comparison-loop-left
-decreases-comparison-loop-left l = l.depth
+abbrev pub decreases-comparison-loop-op : goal.decreases-comparison-loop-op
+decreases-comparison-loop-op l = l.depth
 
-abbrev pub invariant-equality-loop-left : goal.invariant-equality-loop-left
-invariant-equality-loop-left l = Chain (pr.links pr.equality) l.tokens l.initial.left l.initial.depth l.initial.tree l.left l.depth l.tree
+abbrev pub invariant-equality-loop-op : goal.invariant-equality-loop-op
+invariant-equality-loop-op l = Chain (pr.links pr.equality) l.tokens l.initial.left l.initial.depth l.initial.tree
+    l.left l.depth l.tree
 
-abbrev pub decreases-equality-loop-left : goal.decreases-equality-loop-left
-decreases-equality-loop-left l = l.depth
+abbrev pub decreases-equality-loop-op : goal.decreases-equality-loop-op
+decreases-equality-loop-op l = l.depth
 
 abbrev pub invariant-logic_and-loop-left : goal.invariant-logic_and-loop-left
 invariant-logic_and-loop-left l = Chain (pr.links pr.logic_and) l.tokens l.initial.left l.initial.depth l.initial.tree l.left l.depth l.tree
@@ -78,11 +81,12 @@ invariant-logic_or-loop-left l = Chain (pr.links pr.logic_or) l.tokens l.initial
 abbrev pub decreases-logic_or-loop-left : goal.decreases-logic_or-loop-left
 decreases-logic_or-loop-left l = l.depth
 
-abbrev pub invariant-multiplicative-loop-left : goal.invariant-multiplicative-loop-left
-invariant-multiplicative-loop-left l = Chain (pr.links pr.multiplicative) l.tokens l.initial.left l.initial.depth l.initial.tree l.left l.depth l.tree
+abbrev pub invariant-multiplicative-loop-op : goal.invariant-multiplicative-loop-op
+invariant-multiplicative-loop-op l = Chain (pr.links pr.multiplicative) l.tokens l.initial.left l.initial.depth
+    l.initial.tree l.left l.depth l.tree
 
-abbrev pub decreases-multiplicative-loop-left : goal.decreases-multiplicative-loop-left
-decreases-multiplicative-loop-left l = l.depth
+abbrev pub decreases-multiplicative-loop-op : goal.decreases-multiplicative-loop-op
+decreases-multiplicative-loop-op l = l.depth
 
 abbrev pub invariant-postfix-loop-depth : goal.invariant-postfix-loop-depth
 invariant-postfix-loop-depth l = Chain pr.suffixes l.tokens l.initial.left l.initial.depth l.initial.tree l.left l.depth l.tree

@@ -32,20 +32,22 @@ pub returns-then-bad-words : goal.returns-then-bad-words
 unfolding reading or_else
 returns-then-bad-words c =
     let short : length c.args.words.now ≤ table_limit = omega arith in
-    let e = c.refused-then-bad-words.ensures in (
-      rw (le-ltb _ _ short, ← c.check_words-bad.ensures, lt-ltb _ _ c.if-bad-words.true) e,
-      unwritten _ _ _ e,
-    )
+    let e = c.refused-then-bad-words.ensures in
+    record {
+      answer = rw (le-ltb _ _ short, ← c.check_words-bad.ensures, lt-ltb _ _ c.if-bad-words.true) e;
+      words = unwritten _ _ _ e;
+    }
 
 pub returns-then-src-gt-SOURCE_LIMIT : goal.returns-then-src-gt-SOURCE_LIMIT
 unfolding reading or_else
 returns-then-src-gt-SOURCE_LIMIT c =
     let short : length c.args.words.now ≤ table_limit = omega arith in
     let e = c.refused-then-src-gt-SOURCE_LIMIT.ensures in
-    let well = le-ltb _ _ c.if-bad-words.false in (
-      rw (le-ltb _ _ short, ← c.check_words-bad.ensures, well, lt-ltb _ _ c.if-src-gt-SOURCE_LIMIT.true) e,
-      unwritten _ _ _ e,
-    )
+    let well = le-ltb _ _ c.if-bad-words.false in
+    record {
+      answer = rw (le-ltb _ _ short, ← c.check_words-bad.ensures, well, lt-ltb _ _ c.if-src-gt-SOURCE_LIMIT.true) e;
+      words = unwritten _ _ _ e;
+    }
 
 pub overflow_add-i : goal.overflow_add-i
 overflow_add-i c =
@@ -58,10 +60,11 @@ returns-in-Some c =
     let e = c.refused-in-Some.ensures in
     let late =
     past-limits c.args.edition _ _ _ short c.check_words-bad.ensures c.if-bad-words.false
-    c.if-src-gt-SOURCE_LIMIT.false in (
-      rw (late, sym c.first_bad.ensures ∙ c.in-Some.is) e,
-      unwritten _ _ _ e,
-    )
+    c.if-src-gt-SOURCE_LIMIT.false in
+    record {
+      answer = rw (late, sym c.first_bad.ensures ∙ c.in-Some.is) e;
+      words = unwritten _ _ _ e;
+    }
 
 pub overflow_add-i-in-Err-CarriageReturn : goal.overflow_add-i-in-Err-CarriageReturn
 overflow_add-i-in-Err-CarriageReturn c =
@@ -82,10 +85,8 @@ returns-in-Err-CarriageReturn c =
     let at_fault = sym c.check_source.ensures ∙ c.in-Err-CarriageReturn.is ∙ ap Err c.in-Err-CarriageReturn.field-0-is in
     let late =
     past-limits c.args.edition _ _ _ short c.check_words-bad.ensures c.if-bad-words.false
-    c.if-src-gt-SOURCE_LIMIT.false in (
-      rw (late, well, at_fault) e,
-      unwritten _ _ _ e,
-    )
+    c.if-src-gt-SOURCE_LIMIT.false in
+    record { answer = rw (late, well, at_fault) e; words = unwritten _ _ _ e }
 
 pub returns-in-Err-Barred : goal.returns-in-Err-Barred
 unfolding well_or clean_or
@@ -96,10 +97,8 @@ returns-in-Err-Barred c =
     let at_fault = sym c.check_source.ensures ∙ c.in-Err-Barred.is ∙ ap Err c.in-Err-Barred.field-0-is in
     let late =
     past-limits c.args.edition _ _ _ short c.check_words-bad.ensures c.if-bad-words.false
-    c.if-src-gt-SOURCE_LIMIT.false in (
-      rw (late, well, at_fault) e,
-      unwritten _ _ _ e,
-    )
+    c.if-src-gt-SOURCE_LIMIT.false in
+    record { answer = rw (late, well, at_fault) e; words = unwritten _ _ _ e }
 
 pub returns-in-Ok : goal.returns-in-Ok
 unfolding well_or clean_or
@@ -109,7 +108,8 @@ returns-in-Ok c =
     let well = sym c.first_bad.ensures ∙ c.in_default.is in
     let late =
     past-limits c.args.edition _ _ _ short c.check_words-bad.ensures c.if-bad-words.false
-    c.if-src-gt-SOURCE_LIMIT.false in (
-      rw (late, well, sym c.check_source.ensures ∙ c.in-Ok.is) read.0,
-      written _ _ _ _ read.0 read.1,
-    )
+    c.if-src-gt-SOURCE_LIMIT.false in
+    record {
+      answer = rw (late, well, sym c.check_source.ensures ∙ c.in-Ok.is) read.0;
+      words = written _ _ _ _ read.0 read.1;
+    }

@@ -17,9 +17,6 @@ close_semi-requires c =
     let target = phrase_ready c.requires.0 expr c.args.allowance c.expr.ensures c.in_ok-target.was in
     (target, ready_small target)
 
-pub bump-requires : goal.bump-requires
-bump-requires c = ready_small (phrase_ready c.requires.0 expr c.args.allowance c.expr.ensures c.in_ok-target.was)
-
 pub expr-requires-2 : goal.expr-requires-2
 expr-requires-2 c =
     let target = phrase_ready c.requires.0 expr c.args.allowance c.expr.ensures c.in_ok-target.was in

@@ -7,20 +7,9 @@ use Rattle.quanta_grammar.specs.Refine.{blank}
 use Rattle.quanta_cursor.proofs.Places.{ready_small, all_few}
 use Rattle.quanta_cursor.proofs.Meeting.{all_of, all_failed_of, fails}
 use Rattle.quanta_stmt.proofs.Standing.{list_ready, next_ready}
-use Rattle.quanta_stmt.proofs.Keywords.{emit_name, emit_open, emit_args}
+use Rattle.quanta_stmt.proofs.Keywords.{emit_args}
 use Rattle.quanta_stmt.proofs.Keywords.{emit_unnamed, emit_unopened, emit_bad, emit_unclosed, emit_met}
 use Rattle.quanta_stmt.proofs.stmt.emit_stmt.Goals as goal
-
-pub expect_ident-requires : goal.expect_ident-requires
-expect_ident-requires c = emit_name c.bump.ensures c.requires
-
-pub expect-requires : goal.expect-requires
-expect-requires c =
-    ((emit_open c.bump.ensures c.requires c.expect_ident.ensures c.in_ok-name.was).inside, c.requires.0.closed.few)
-
-pub call_args-requires : goal.call_args-requires
-call_args-requires c =
-    emit_args c.bump.ensures c.requires c.expect_ident.ensures c.in_ok-name.was c.expect.ensures c.in_ok-next.was
 
 pub expect-requires-2 : goal.expect-requires-2
 expect-requires-2 c =

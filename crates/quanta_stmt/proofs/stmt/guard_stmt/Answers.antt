@@ -7,9 +7,6 @@ use Rattle.quanta_stmt.proofs.Standing.{phrase_ready}
 use Rattle.quanta_stmt.proofs.Keywords.{guard_value, guard_bad, guard_met}
 use Rattle.quanta_stmt.proofs.stmt.guard_stmt.Goals as goal
 
-pub expr-requires : goal.expr-requires
-expr-requires c = guard_value c.bump.ensures c.requires
-
 pub close_semi-requires : goal.close_semi-requires
 close_semi-requires c =
     let behind = guard_value c.bump.ensures c.requires in

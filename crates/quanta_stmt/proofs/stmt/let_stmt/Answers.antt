@@ -4,19 +4,8 @@ use Rattle.quanta_grammar.specs.Productions.{expr}
 use Rattle.quanta_cursor.proofs.Places.{ready_small}
 use Rattle.quanta_cursor.proofs.Meeting.{took_of, failed_of, fails}
 use Rattle.quanta_stmt.proofs.Standing.{phrase_ready}
-use Rattle.quanta_stmt.proofs.Keywords.{let_name, let_eq, let_value, let_unnamed, let_unset, let_bad, let_met}
+use Rattle.quanta_stmt.proofs.Keywords.{let_value, let_unnamed, let_unset, let_bad, let_met}
 use Rattle.quanta_stmt.proofs.stmt.let_stmt.Goals as goal
-
-pub expect_ident-requires : goal.expect_ident-requires
-expect_ident-requires c = let_name c.bump.ensures c.requires
-
-pub expect-requires : goal.expect-requires
-expect-requires c =
-    ((let_eq c.bump.ensures c.requires c.expect_ident.ensures c.in_ok-name.was).inside, c.requires.0.closed.few)
-
-pub expr-requires : goal.expr-requires
-expr-requires c =
-    let_value c.bump.ensures c.requires c.expect_ident.ensures c.in_ok-name.was c.expect.ensures c.in_ok-next.was
 
 pub close_semi-requires : goal.close_semi-requires
 close_semi-requires c =

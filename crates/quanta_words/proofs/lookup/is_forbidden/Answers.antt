@@ -12,5 +12,4 @@ returns-then-seen-key-eq0 c =
 pub returns-then-not-probe : goal.returns-then-not-probe
 returns-then-not-probe c =
     let some : 0 < length c.args.index.now = grind (arith, common_steps) in
-    let covers = c.requires.indexed some in
-    sym (covers.lists _ (c.probe.ensures.unfound covers.sorted c.if-not-probe.true))
+    sym (c.requires.indexed some _ (sym c.probe.ensures ∙ c.if-not-probe.true))

@@ -3,11 +3,11 @@ use Prim.Native.Nat.{◌≤◌, ◌-◌}
 use mathlib.Core.Path.{◌≡◌}
 use lib.ListN.{length}
 use Rattle.quanta_lexer.specs.Trivia.{trivia_end}
-use Rattle.quanta_lexer.proofs.scan.Lexer.skip_trivia.Given as goal
+use Rattle.quanta_lexer.proofs.scan.skip_trivia.Given as goal
 
 abbrev pub invariant-loop-i : goal.invariant-loop-i
 invariant-loop-i l =
-    (l.i ≤ length l.self.src.now) × (trivia_end l.self.src.now l.initial.i ≡ trivia_end l.self.src.now l.i)
+    (l.i ≤ length l.src) × (trivia_end l.src l.initial.i ≡ trivia_end l.src l.i)
 
 abbrev pub decreases-loop-i : goal.decreases-loop-i
-decreases-loop-i l = length l.self.src.now - l.i
+decreases-loop-i l = length l.src - l.i

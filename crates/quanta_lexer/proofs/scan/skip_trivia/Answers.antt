@@ -2,7 +2,7 @@ use mathlib.Core.Path.{refl, sym, ◌∙◌}
 use native.Mathlib.Omega.{arith}
 use Rattle.quanta_token.proofs.RunLaws.{end_bounds}
 use Rattle.quanta_lexer.proofs.TriviaLaws.{turn_stop, turn_more}
-use Rattle.quanta_lexer.proofs.scan.Lexer.skip_trivia.Goals as goal
+use Rattle.quanta_lexer.proofs.scan.skip_trivia.Goals as goal
 
 pub loop-i-init : goal.loop-i-init
 loop-i-init c = (c.requires, refl)
