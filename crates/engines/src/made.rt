@@ -6,10 +6,12 @@ use crate::chance::{below, coin, mix};
 use quanta_cursor::parser::MAX_DEPTH;
 use quanta_token::token;
 
-// The most tokens of a list, and the words of a tree.
+// The most tokens of a list, their words, and the words of a tree.
 const TOKENS: usize = 150;
 
-const TREE: usize = 1200;
+pub const WORDS: usize = 450;
+
+pub const TREE: usize = 1200;
 
 // A list, and what it is read with: its number of tokens and their seed; the words of the tree, the first token, the
 // number of the first record and the allowance.

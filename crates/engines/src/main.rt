@@ -7,13 +7,13 @@ mod made;
 mod report;
 mod trial;
 
+use crate::made::{TREE, WORDS};
 use std::io;
 
 fn main(rt: HostRuntime) -> io::Result<()> {
-    let mut tokens = [0u32; 450];
-    let mut one = [0u32; 1200];
-    let mut two = [0u32; 1200];
-    let mut came = [0u32; 32];
-    let differing = trial::all(&mut tokens, &mut one, &mut two, &mut came);
+    let mut tokens = [0; WORDS];
+    let mut one = [0; TREE];
+    let mut two = [0; TREE];
+    let (differing, came) = trial::all(&mut tokens, &mut one, &mut two);
     report::print(&rt, differing, &came)
 }

@@ -4,8 +4,11 @@ ghost use Rattle.std.specs.Prelude.{ℕ, ◌+◌, ◌<◌, ◌≤◌, slice_inde
 use crate::trial::LISTS;
 use std::io;
 
+// The numbers of answers are below this: 0 for an expression, and those of the refusals.
+pub const NUMBERS: usize = 32;
+
 // One more of this number.
-pub fn count(came: &mut [u32], number: u32)
+pub fn count(came: &mut [u32; NUMBERS], number: u32)
     requires { (k : ℕ) → slice_index came.old k < 4294967295 }
     ensures { (k : ℕ) → slice_index came.new k ≤ slice_index came.old k + 1 }
 {
@@ -24,7 +27,7 @@ fn refused(rt: &impl Print, number: usize, times: u32) -> io::Result<()> {
 }
 
 // Writes the refusals that came.
-fn refusals(rt: &impl Print, came: &[u32; 32]) -> io::Result<()> {
+fn refusals(rt: &impl Print, came: &[u32; NUMBERS]) -> io::Result<()> {
     for (number, times) in came.iter().enumerate().skip(1) {
         refused(rt, number, *times)?;
     }
@@ -32,7 +35,7 @@ fn refusals(rt: &impl Print, came: &[u32; 32]) -> io::Result<()> {
 }
 
 // Two lines: how many lists differ; and how many were accepted, and refused by each number that came.
-pub fn print(rt: &impl Print, differing: u32, came: &[u32; 32]) -> io::Result<()> {
+pub fn print(rt: &impl Print, differing: u32, came: &[u32; NUMBERS]) -> io::Result<()> {
     let accepted = came[0];
     println!(rt; "{LISTS} lists, {differing} differ")?;
     print!(rt; "accepted {accepted}")?;

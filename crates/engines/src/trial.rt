@@ -1,12 +1,12 @@
 // Both engines on a list, from the same place with the same allowance over the same words.
-ghost use Rattle.std.specs.Prelude.{◌≡◌, ℕ, ◌*◌, length, slice_index};
+ghost use Rattle.std.specs.Prelude.{◌≡◌, ◌*◌, length};
 ghost use Rattle.engines.specs.Cases.{Sound, Lent};
 
 use crate::chance::mix;
 use crate::closed::is_closed;
 use crate::made;
-use crate::made::Case;
-use crate::report::count;
+use crate::made::{Case, TREE, WORDS};
+use crate::report::{NUMBERS, count};
 use quanta_cursor::parser::{Node, RecordNo, Refusal, TokenPos};
 
 // How many lists.
@@ -63,9 +63,14 @@ fn args_alike(tokens: &[u32], one: &mut [u32], two: &mut [u32], case: Case, seed
 }
 
 // Both. A list that is not closed is none to read, and counts as a difference.
-fn came_of(tokens: &[u32], one: &mut [u32], two: &mut [u32], case: Case, seed: u32) -> Option<u32>
-    requires sound { Sound case × (length tokens.now ≡ case.count * 3) }
-    requires one_len { (length one.old ≡ 1200) × (length two.old ≡ 1200) }
+fn came_of(
+    tokens: &[u32],
+    one: &mut [u32; TREE],
+    two: &mut [u32; TREE],
+    case: Case,
+    seed: u32,
+) -> Option<u32>
+    requires { Sound case × (length tokens.now ≡ case.count * 3) }
 {
     if !is_closed(tokens) || !args_alike(tokens, one, two, case, seed) {
         return None;
@@ -75,33 +80,33 @@ fn came_of(tokens: &[u32], one: &mut [u32], two: &mut [u32], case: Case, seed: u
 
 // The list that a seed makes, read by both.
 fn came_from(
-    tokens: &mut [u32],
-    one: &mut [u32],
-    two: &mut [u32],
+    tokens: &mut [u32; WORDS],
+    one: &mut [u32; TREE],
+    two: &mut [u32; TREE],
     seed: u32,
     scattered: bool,
-) -> Option<u32>
-    requires { (length tokens.old ≡ 450) × (length one.old ≡ 1200) × (length two.old ≡ 1200) }
-{
+) -> Option<u32> {
     let case = made::draw(seed);
     let words = case.count * 3;
     made::fill(&mut tokens[..words], case.seed, scattered);
     came_of(&tokens[..words], one, two, case, seed)
 }
 
-// All lists, every fourth scattered: how many differ; and in `came` how often each number came.
-pub fn all(tokens: &mut [u32], one: &mut [u32], two: &mut [u32], came: &mut [u32]) -> u32
-    requires tokens_len { (length tokens.old ≡ 450) × (length one.old ≡ 1200) × (length two.old ≡ 1200) }
-    requires by_index { (k : ℕ) → slice_index came.old k ≡ 0 }
-{
+// All lists, every fourth scattered: how many differ, and how often each number came.
+pub fn all(
+    tokens: &mut [u32; WORDS],
+    one: &mut [u32; TREE],
+    two: &mut [u32; TREE],
+) -> (u32, [u32; NUMBERS]) {
     let mut seed = STEP;
     let mut differing: u32 = 0;
+    let mut came = [0; NUMBERS];
     for round in 0..LISTS {
         match came_from(tokens, one, two, mix(seed), round % 4 == 0) {
-            Some(number) => count(came, number),
+            Some(number) => count(&mut came, number),
             None => differing += 1,
         }
         seed = seed.wrapping_add(STEP);
     }
-    differing
+    (differing, came)
 }

@@ -6,14 +6,14 @@ ghost use Rattle.quanta_stored.specs.Words.{sum_of, RUBBISH};
 const RUBBISH: u32 = 0xA5A5A5A5;
 
 // Starts at 1, and each word w makes it (65,599 s + w) mod 4,294,967,291.
-pub fn sum(words: &[u32]) -> u64
+pub fn sum(words: &[u32]) -> u32
     ensures { result ≡ sum_of words.now }
 {
     let mut sum: u64 = 1;
     for word in words {
         sum = (65599 * sum + u64::from(*word)) % 4294967291;
     }
-    sum
+    sum as u32
 }
 
 // Fills a buffer with what no call leaves there.

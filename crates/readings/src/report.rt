@@ -1,8 +1,9 @@
 // What the program prints. Of a line it answers true: the line differs.
 ghost use Rattle.std.specs.Prelude.{◌≡◌, true, IfOk};
 
-use crate::replay::{ANSWER, CALL, EDITION};
-use quanta_show::print_number;
+use crate::ask::{CALL, EDITION};
+use crate::replay::ANSWER;
+use quanta_show::numbers;
 use quanta_stored::line::{field, rest};
 use std::io;
 
@@ -23,16 +24,8 @@ pub fn malformed(rt: &impl Print, no: u64, line: &[u8]) -> io::Result<bool>
     Ok(true)
 }
 
-// Writes each number with a blank before it.
-fn numbers(rt: &impl Print, came: &[u64; 10]) -> io::Result<()> {
-    for n in came {
-        print_number(rt, *n)?;
-    }
-    Ok(())
-}
-
 // A line whose call answers something else.
-pub fn different(rt: &impl Print, no: u64, line: &[u8], came: &[u64; 10]) -> io::Result<bool>
+pub fn different(rt: &impl Print, no: u64, line: &[u8], came: &[u32; 10]) -> io::Result<bool>
     ensures { IfOk result (λ differs. differs ≡ true) }
 {
     place(rt, no, line)?;
