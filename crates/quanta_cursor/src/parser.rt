@@ -82,22 +82,10 @@ impl Span {
         ensures { result ≡ joined self other }
     {
         Span {
-            start: least(self.start, other.start),
-            end: most(self.end, other.end),
+            start: self.start.min(other.start),
+            end: self.end.max(other.end),
         }
     }
-}
-
-fn least(a: u32, b: u32) -> u32
-    ensures { result ≡ min a b }
-{
-    if a < b { a } else { b }
-}
-
-fn most(a: u32, b: u32) -> u32
-    ensures { result ≡ max a b }
-{
-    if a < b { b } else { a }
 }
 
 // One level more: what is left of the allowance, or 20 at the token that is next.
