@@ -1,5 +1,5 @@
-// An index of the word table: the places of its records, sorted by their words, so that a word is looked for in few steps. The sorting
-// is not proved to sort: what counts is checked after it, that each word of the table is found through the index.
+// An index of the word table: the places of its records, sorted by their words, so that a word is looked for in few steps. The order
+// is not relied on: what counts is checked after the sorting, that each word of the table is found through the index.
 ghost use Rattle.std.specs.Prelude.{◌≡◌, true, ◌≤◌, ◌<◌, length, take};
 ghost use Rattle.quanta_words.specs.Index.{order_of, order_at, probe_of, Covers, Indexed};
 
