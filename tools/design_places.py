@@ -65,11 +65,14 @@ def normal(body):
 
 
 def twins(src):
-    """Functions and types that are another's text but for names, numbers and texts: all but the first of each kind."""
+    """Functions and types that are another's text but for names, numbers and texts: all but the first of each kind.
+
+    A function whose body is one call is not counted: it is how a name stands for a case of another function."""
     first, again = {}, []
     for p, n, b in blocks(src, r'(?:pub )?(?:extern "C" )?fn |(?:pub )?(?:enum|struct) '):
         shape = normal(b)
-        if len(shape.split()) < 40:
+        body = re.search(r"\{\n(.*)\}", b, re.S)
+        if len(shape.split()) < 40 or " fn " in " " + b.split("(")[0] and body and not re.search(r"[;{]", body.group(1)):
             continue
         if shape in first:
             again.append((p, n, b.split("\n")[0] + "   like " + first[shape]))
