@@ -11,21 +11,6 @@ pub returns-then-n-tree : goal.returns-then-n-tree
 unfolding put_rec
 returns-then-n-tree c = (search rules, simp (le-ltb _ _ c.if-n-tree.true))
 
-pub bounds-tree-i-2 : goal.bounds-tree-i-2
-bounds-tree-i-2 c = simp length-set (omega arith)
-
-pub bounds-tree-i-3 : goal.bounds-tree-i-3
-bounds-tree-i-3 c = simp length-set (omega arith)
-
-pub bounds-tree-i-4 : goal.bounds-tree-i-4
-bounds-tree-i-4 c = simp length-set (omega arith)
-
-pub bounds-tree-i-5 : goal.bounds-tree-i-5
-bounds-tree-i-5 c = simp length-set (omega arith)
-
-pub bounds-tree-i-6 : goal.bounds-tree-i-6
-bounds-tree-i-6 c = simp length-set (omega arith)
-
 pub returns : goal.returns
 unfolding put_rec
 returns c = (search rules, simp (lt-ltb _ _ c.if-n-tree.false))

@@ -13,11 +13,6 @@ returns-then-peek-ne-EQ c =
     λ src x. missing (default_missing src c.args.tokens.now c.args.allowance c.requires x (λ z. c.if-peek-ne-EQ.true
     (c.peek.ensures ∙ z))) refl
 
-pub expr-requires : goal.expr-requires
-expr-requires c =
-    default_past blank c.args.tokens.now c.args.allowance c.requires fresh (sym c.peek.ensures ∙
-    c.if-peek-ne-EQ.false) c.bump.ensures
-
 pub returns-in_err-value : goal.returns-in_err-value
 returns-in_err-value c =
     λ src x. fails_opt c.from_residual.ensures.1 (default_bad src c.args.tokens.now c.args.allowance c.requires x (sym

@@ -8,28 +8,6 @@ use Rattle.quanta_cursor.proofs.Exits.{held}
 use Rattle.quanta_param.proofs.Fields.{meta_ready, meta_few, field_nameless, named_ready, field_colonless, colon_ready, field_typeless, half_place, field_halved, typed_ready, field_defaultless, field_plain, default_ready, field_valued}
 use Rattle.quanta_param.proofs.decl.field_decl.Goals as goal
 
-pub expect_ident-requires : goal.expect_ident-requires
-expect_ident-requires c =
-    meta_ready (text c.args.edition c.args.src.now) c.args.tokens.now c.args.allowance c.requires c.eat-meta.ensures
-    c.args.tree.now
-
-pub expect-requires : goal.expect-requires
-expect-requires c =
-    let z = named_ready (text c.args.edition c.args.src.now) c.args.tokens.now c.args.allowance c.requires
-    c.eat-meta.ensures c.args.tree.now c.expect_ident.ensures c.in_ok-name.was in
-    (z.inside, z.closed.few)
-
-pub ty-requires : goal.ty-requires
-ty-requires c =
-    colon_ready (text c.args.edition c.args.src.now) c.args.tokens.now c.args.allowance c.requires c.eat-meta.ensures
-    c.args.tree.now c.expect_ident.ensures c.in_ok-name.was c.expect.ensures c.in_ok-next.was
-
-pub err_half-requires : goal.err_half-requires
-err_half-requires c =
-    (half_place (text c.args.edition c.args.src.now) c.args.tokens.now c.args.allowance c.requires c.eat-meta.ensures
-    c.args.tree.now c.expect_ident.ensures c.in_ok-name.was c.expect.ensures c.in_ok-next.was c.ty.ensures (held
-    c.in_ok-ty.was c.in-Half.is)).inside
-
 pub default-requires : goal.default-requires
 default-requires c =
     typed_ready (text c.args.edition c.args.src.now) c.args.tokens.now c.args.allowance c.requires c.eat-meta.ensures
@@ -46,14 +24,6 @@ close_field-requires c = (
       c.args.tokens.now c.args.allowance c.requires c.eat-meta.ensures c.args.tree.now c.expect_ident.ensures
       c.in_ok-name.was).inside,
 )
-
-pub overflow_add-meta : goal.overflow_add-meta
-overflow_add-meta c =
-    omega (
-      arith,
-      meta_few (text c.args.edition c.args.src.now) c.args.tokens.now c.args.allowance c.requires
-          c.eat-meta.ensures c.args.tree.now,
-    )
 
 pub close_field-requires-in-Some : goal.close_field-requires-in-Some
 close_field-requires-in-Some c = (

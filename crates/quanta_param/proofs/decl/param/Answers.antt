@@ -9,23 +9,6 @@ use Rattle.quanta_cursor.proofs.Exits.{held}
 use Rattle.quanta_param.proofs.Params.{param_nameless, named_ready, param_colonless, colon_ready, sealed_ready, sealed_few, param_typeless, half_typed_ready, param_half, typed_ready, param_missigned, param_plain, signed_ready, param_signed}
 use Rattle.quanta_param.proofs.decl.param.Goals as goal
 
-pub expect-requires : goal.expect-requires
-expect-requires c =
-    let z = named_ready (text c.args.edition c.args.src.now) c.args.tokens.now c.args.allowance c.requires
-    c.expect_ident.ensures c.in_ok-name.was in
-    (z.inside, z.closed.few)
-
-pub eat-sealed-requires : goal.eat-sealed-requires
-eat-sealed-requires c =
-    let z = colon_ready (text c.args.edition c.args.src.now) c.args.tokens.now c.args.allowance c.requires
-    c.expect_ident.ensures c.in_ok-name.was c.expect.ensures c.in_ok-next.was in
-    (z.inside, z.closed.few)
-
-pub ty-requires : goal.ty-requires
-ty-requires c =
-    sealed_ready (text c.args.edition c.args.src.now) c.args.tokens.now c.args.allowance c.requires
-    c.expect_ident.ensures c.in_ok-name.was c.expect.ensures c.in_ok-next.was c.eat-sealed.ensures
-
 pub end_param-requires : goal.end_param-requires
 end_param-requires c = (
   ready_few (half_typed_ready (text c.args.edition c.args.src.now) c.args.tokens.now c.args.allowance c.requires
@@ -49,14 +32,6 @@ end_param-requires-in-None c = (
   ready_small (named_ready (text c.args.edition c.args.src.now)
       c.args.tokens.now c.args.allowance c.requires c.expect_ident.ensures c.in_ok-name.was),
 )
-
-pub overflow_add-flag : goal.overflow_add-flag
-overflow_add-flag c =
-    omega (
-      arith,
-      sealed_few (text c.args.edition c.args.src.now) c.args.tokens.now c.args.allowance c.requires
-          c.expect_ident.ensures c.in_ok-name.was c.expect.ensures c.in_ok-next.was c.eat-sealed.ensures,
-    )
 
 pub end_param-requires-in-Some : goal.end_param-requires-in-Some
 end_param-requires-in-Some c = (

@@ -7,22 +7,6 @@ use Rattle.quanta_cursor.proofs.Exits.{held}
 use Rattle.quanta_param.proofs.Params.{list_unopened, open_ready, list_refused, half_place, list_halved, full_ready, list_unclosed, list_closed}
 use Rattle.quanta_param.proofs.decl.param_list.Goals as goal
 
-pub params-requires : goal.params-requires
-params-requires c =
-    open_ready (text c.args.edition c.args.src.now) c.args.tokens.now c.args.allowance c.requires c.args.tree.now
-    c.expect.ensures c.in_ok-inside.was
-
-pub err_half-requires : goal.err_half-requires
-err_half-requires c =
-    (half_place (text c.args.edition c.args.src.now) c.args.tokens.now c.args.allowance c.requires c.args.tree.now
-    c.expect.ensures c.in_ok-inside.was c.params.ensures (held c.in_ok-params.was c.in-Half.is)).inside
-
-pub expect-requires-2 : goal.expect-requires-2
-expect-requires-2 c =
-    let z = full_ready (text c.args.edition c.args.src.now) c.args.tokens.now c.args.allowance c.requires
-    c.args.tree.now c.expect.ensures c.in_ok-inside.was c.params.ensures (held c.in_ok-params.was c.in-Whole.is) in
-    (z.inside, z.closed.few)
-
 pub returns-in_err-inside : goal.returns-in_err-inside
 returns-in_err-inside c =
     fails_all c.from_residual.ensures.1 (list_unopened (text c.args.edition c.args.src.now) c.args.tokens.now

@@ -6,20 +6,11 @@ use Rattle.quanta_grammar.specs.Refine.{text}
 use Rattle.quanta_type.proofs.Types.{type_took, type_fails, arg_past, arg_alone, arg_ready, arg_bad, arg_few, arg_took}
 use Rattle.quanta_type.proofs.ty.int_arg.Goals as goal
 
-pub is_of-requires : goal.is_of-requires
-is_of-requires c = (c.requires.0.closed, arg_past (text One c.args.src.now) c.args.tokens.now c.requires.0 c.requires.1 c.leaf-m.ensures.0)
-
 pub returns-then-not-is_of : goal.returns-then-not-is_of
 returns-then-not-is_of c = λ e a. type_took (arg_alone (text e c.args.src.now) c.args.tokens.now c.requires.0 c.requires.1 c.leaf-m.ensures.0 a (c.is_of.ensures e) c.if-not-is_of.true c.leaf-m.ensures.1)
 
-pub bump-requires : goal.bump-requires
-bump-requires c = omega (arith, arg_past (text One c.args.src.now) c.args.tokens.now c.requires.0 c.requires.1 c.leaf-m.ensures.0, c.requires.0.closed.few)
-
 pub expect_int-requires : goal.expect_int-requires
 expect_int-requires c = arg_ready (text One c.args.src.now) c.args.tokens.now c.requires.0 c.requires.1 c.leaf-m.ensures.0 (c.is_of.ensures One) c.if-not-is_of.false c.bump.ensures
-
-pub put-requires : goal.put-requires
-put-requires c = (arg_few (text One c.args.src.now) c.args.tokens.now c.requires.0 c.requires.1 c.leaf-m.ensures.0 (c.is_of.ensures One) c.if-not-is_of.false c.bump.ensures c.expect_int.ensures c.in_ok-n.was, omega (arith, arg_past (text One c.args.src.now) c.args.tokens.now c.requires.0 c.requires.1 c.leaf-m.ensures.0, c.requires.0.closed.few))
 
 pub returns-in_err-n : goal.returns-in_err-n
 returns-in_err-n c = λ e a. type_fails c.from_residual.ensures.1 (arg_bad (text e c.args.src.now) c.args.tokens.now c.requires.0 c.requires.1 c.leaf-m.ensures.0 (c.is_of.ensures e) c.if-not-is_of.false c.bump.ensures c.expect_int.ensures a c.in_err-n.was)
