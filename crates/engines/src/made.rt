@@ -68,15 +68,6 @@ fn next(kind: u32, seed: u32) -> u32 {
     }
 }
 
-// Writes the token `i`.
-fn put(tokens: &mut [u32], i: usize, kind: u32, start: u32, end: u32)
-    requires { i * 3 + 2 < length tokens.old }
-{
-    tokens[i * 3] = kind;
-    tokens[i * 3 + 1] = start;
-    tokens[i * 3 + 2] = end;
-}
-
 // Writes a list, Eof last. Starts and ends are in order, or by chance where they are scattered.
 pub fn fill(tokens: &mut [u32], seed: u32, scattered: bool)
     requires { length tokens.old ≤ 450 }
@@ -84,20 +75,24 @@ pub fn fill(tokens: &mut [u32], seed: u32, scattered: bool)
     let count = tokens.len() / 3;
     let mut seed = seed;
     let mut kind = token::LPAREN;
-    for i in 0..count {
+    for (i, token) in tokens.chunks_exact_mut(3).enumerate() {
         seed = mix(seed);
-        kind = next(kind, seed);
-        if i + 1 == count {
-            kind = token::EOF;
-        }
+        kind = if i + 1 == count {
+            token::EOF
+        } else {
+            next(kind, seed)
+        };
         let start = mix(seed);
         seed = mix(start);
-        if scattered {
-            put(tokens, i, kind, start, seed);
+        let place = i as u32 * 2;
+        let (start, end) = if scattered {
+            (start, seed)
         } else {
-            let place = i as u32 * 2;
-            put(tokens, i, kind, place, place + 1);
-        }
+            (place, place + 1)
+        };
+        token[0] = kind;
+        token[1] = start;
+        token[2] = end;
     }
 }
 

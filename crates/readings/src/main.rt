@@ -1,11 +1,10 @@
 // Replays a stored list of the original's answers from standard input over all five calls, and prints what differs.
 #![tactic(auto)]
 
-mod ask;
 mod replay;
 mod report;
 
-use crate::ask::Buffers;
+use crate::replay::Buffers;
 use quanta_show::input::read_full;
 use std::io;
 

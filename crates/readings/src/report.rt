@@ -1,8 +1,7 @@
 // What the program prints. Of a line it answers true: the line differs.
 ghost use Rattle.std.specs.Prelude.{◌≡◌, true, IfOk};
 
-use crate::ask::{CALL, EDITION};
-use crate::replay::ANSWER;
+use crate::replay::{ANSWER, CALL, EDITION};
 use quanta_show::numbers;
 use quanta_stored::line::{field, rest};
 use std::io;
