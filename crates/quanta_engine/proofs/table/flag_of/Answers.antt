@@ -1,0 +1,21 @@
+-- `quanta_engine::table::flag_of` meets its contract: the table's rule, in its columns, below and above them.
+-- Assumes nothing.
+use native.Mathlib.Omega.{arith}
+use Rattle.quanta_engine.proofs.Entries.{inside, outside}
+use Rattle.quanta_engine.proofs.Tables.{operators, no_operator, flags_right}
+use Rattle.quanta_engine.proofs.table.flag_of.Goals as goal
+
+pub returns-in-47-to-61 : goal.returns-in-47-to-61
+returns-in-47-to-61 c =
+    let k = c.args.kind in
+    inside (λ p. p.1) operators no_operator k (flags_right k c.requires) (omega arith) (omega arith)
+
+pub returns-in_default : goal.returns-in_default
+returns-in_default c =
+    let k = c.args.kind in
+    outside (λ p. p.1) operators no_operator k (flags_right k c.requires) (λ l g. omega arith)
+
+pub returns-in_default-2 : goal.returns-in_default-2
+returns-in_default-2 c =
+    let k = c.args.kind in
+    outside (λ p. p.1) operators no_operator k (flags_right k c.requires) (λ l g. omega arith)
