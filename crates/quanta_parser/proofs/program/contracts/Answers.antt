@@ -18,27 +18,38 @@ contract-requires c = (c.loop-span.invariant.ready, (sym c.peek.ensures ∙ c.lo
 pub returns-in_err-contract : goal.returns-in_err-contract
 returns-in_err-contract c =
     λ x. fails_run c.from_residual.ensures.1 (run_bad contracts_law (text c.args.edition c.args.src.now)
-      c.args.allowance c.loop-span.invariant (sym c.peek.ensures ∙ c.loop-span-test.true) (failed_of
-      c.in_err-contract.was c.contract.ensures) x)
+    c.args.allowance c.loop-span.invariant (sym c.peek.ensures ∙ c.loop-span-test.true) (failed_of
+    c.in_err-contract.was c.contract.ensures) x)
 
 pub overflow_add-count : goal.overflow_add-count
 overflow_add-count c =
-    omega (arith, c.loop-span.invariant.few, c.loop-span.invariant.ready.inside, c.loop-span.invariant.ready.fits,
-      c.requires.closed.few)
+    omega (
+      arith,
+      c.loop-span.invariant.few,
+      c.loop-span.invariant.ready.inside,
+      c.loop-span.invariant.ready.fits,
+      c.requires.closed.few,
+    )
 
 pub loop-span-smaller : goal.loop-span-smaller
 loop-span-smaller c =
-    omega (arith, c.loop-span.invariant.ready.inside, run_less contracts_law (text c.args.edition c.args.src.now)
-      c.args.allowance c.loop-span.invariant (sym c.peek.ensures ∙ c.loop-span-test.true) (took_of
-      c.in_ok-contract.was c.contract.ensures))
+    omega (
+      arith,
+      c.loop-span.invariant.ready.inside,
+      run_less contracts_law (text c.args.edition c.args.src.now)
+          c.args.allowance c.loop-span.invariant (sym c.peek.ensures ∙ c.loop-span-test.true) (took_of
+          c.in_ok-contract.was c.contract.ensures),
+    )
 
 pub loop-span-preserved : goal.loop-span-preserved
 loop-span-preserved c =
     run_on contracts_law (text c.args.edition c.args.src.now) c.args.allowance c.loop-span.invariant (sym
-      c.peek.ensures ∙ c.loop-span-test.true) (took_of c.in_ok-contract.was c.contract.ensures) refl
-      c.contract.auto.tree
+    c.peek.ensures ∙ c.loop-span-test.true) (took_of c.in_ok-contract.was c.contract.ensures) refl
+    c.contract.auto.tree
 
 pub returns : goal.returns
 returns c =
-    λ x. record { by = run_ends contracts_law (text c.args.edition c.args.src.now) c.args.allowance
-      c.loop-span.invariant (λ z. c.loop-span-test.false (c.peek.ensures ∙ z)) refl refl refl refl x }
+    λ x. record {
+      by = run_ends contracts_law (text c.args.edition c.args.src.now) c.args.allowance
+          c.loop-span.invariant (λ z. c.loop-span-test.false (c.peek.ensures ∙ z)) refl refl refl refl x;
+    }
