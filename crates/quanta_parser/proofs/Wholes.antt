@@ -92,8 +92,10 @@ module _ {call s : Symbol} (law : Calls call s) (src : Text) {ws t : List ℕ} (
     more : {u : Refusal} → (kind_at ws m.at.0 ≡ code Eof → ⊥) × (u ≡ err_at ws m.at.0 (refusal_code token_after_the_end) 0)
         → MeetsWhole all t (Err u) t'
     more w =
-        record { by = lack (bring (law.begins src ws g.inside) law.heedless phrase.gave) tt g.closed whole_inside
-          (not_one (code Eof) w.0) tt w.1 }
+        record {
+          by = lack (bring (law.begins src ws g.inside) law.heedless phrase.gave) tt g.closed whole_inside
+              (not_one (code Eof) w.0) tt w.1;
+        }
 
     met : kind_at ws m.at.0 ≡ code Eof → MeetsWhole all t (Ok m) t'
     met w =

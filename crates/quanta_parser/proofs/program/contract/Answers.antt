@@ -7,51 +7,37 @@ use Rattle.quanta_cursor.proofs.Meeting.{fails}
 use Rattle.quanta_parser.proofs.Parts.{keyword_past, contract_nameless, name_ready, contract_unopened, body_ready, contract_bad, full_ready, full_few, contract_met}
 use Rattle.quanta_parser.proofs.program.contract.Goals as goal
 
-pub bump-requires : goal.bump-requires
-bump-requires c = ready_small c.requires.0
-
-pub expect_ident-requires : goal.expect_ident-requires
-expect_ident-requires c = keyword_past (code Contract) (λ u. u) c.requires.0 c.requires.1 c.bump.ensures
-
-pub expect-requires : goal.expect-requires
-expect-requires c =
-    let z = name_ready (text c.args.edition c.args.src.now) c.args.tokens.now c.args.allowance c.requires.0
-      c.requires.1 c.bump.ensures c.args.tree.now c.expect_ident.ensures c.in_ok-name.was in
-    (z.inside, z.closed.few)
-
-pub items-requires : goal.items-requires
-items-requires c =
-    body_ready (text c.args.edition c.args.src.now) c.args.tokens.now c.args.allowance c.requires.0 c.requires.1
-      c.bump.ensures c.args.tree.now c.expect_ident.ensures c.in_ok-name.was c.expect.ensures c.in_ok-inside.was
-
 pub close_contract-requires : goal.close_contract-requires
-close_contract-requires c =
-    (full_ready (text c.args.edition c.args.src.now) c.args.tokens.now c.args.allowance c.requires.0 c.requires.1
+close_contract-requires c = (
+  full_ready (text c.args.edition c.args.src.now) c.args.tokens.now c.args.allowance c.requires.0 c.requires.1
       c.bump.ensures c.args.tree.now c.expect_ident.ensures c.in_ok-name.was c.expect.ensures c.in_ok-inside.was
-      c.items.ensures c.in_ok-items.was, c.requires.0.inside, full_few (text c.args.edition c.args.src.now)
+      c.items.ensures c.in_ok-items.was,
+  c.requires.0.inside,
+  full_few (text c.args.edition c.args.src.now)
       c.args.tokens.now c.args.allowance c.requires.0 c.requires.1 c.bump.ensures c.args.tree.now
-      c.expect_ident.ensures c.in_ok-name.was c.expect.ensures c.in_ok-inside.was c.items.ensures c.in_ok-items.was)
+      c.expect_ident.ensures c.in_ok-name.was c.expect.ensures c.in_ok-inside.was c.items.ensures c.in_ok-items.was,
+)
 
 pub returns-in_err-name : goal.returns-in_err-name
 returns-in_err-name c =
     fails c.from_residual.ensures.1 (contract_nameless (text c.args.edition c.args.src.now) c.args.tokens.now
-      c.args.allowance c.requires.0 c.requires.1 c.bump.ensures c.args.tree.now c.expect_ident.ensures
-      c.in_err-name.was)
+    c.args.allowance c.requires.0 c.requires.1 c.bump.ensures c.args.tree.now c.expect_ident.ensures
+    c.in_err-name.was)
 
 pub returns-in_err-inside : goal.returns-in_err-inside
 returns-in_err-inside c =
     fails c.from_residual-in_err-inside.ensures.1 (contract_unopened (text c.args.edition c.args.src.now)
-      c.args.tokens.now c.args.allowance c.requires.0 c.requires.1 c.bump.ensures c.args.tree.now
-      c.expect_ident.ensures c.in_ok-name.was c.expect.ensures c.in_err-inside.was)
+    c.args.tokens.now c.args.allowance c.requires.0 c.requires.1 c.bump.ensures c.args.tree.now
+    c.expect_ident.ensures c.in_ok-name.was c.expect.ensures c.in_err-inside.was)
 
 pub returns-in_err-items : goal.returns-in_err-items
 returns-in_err-items c =
     fails c.from_residual-in_err-items.ensures.1 (contract_bad (text c.args.edition c.args.src.now) c.args.tokens.now
-      c.args.allowance c.requires.0 c.requires.1 c.bump.ensures c.args.tree.now c.expect_ident.ensures
-      c.in_ok-name.was c.expect.ensures c.in_ok-inside.was c.items.ensures c.in_err-items.was)
+    c.args.allowance c.requires.0 c.requires.1 c.bump.ensures c.args.tree.now c.expect_ident.ensures
+    c.in_ok-name.was c.expect.ensures c.in_ok-inside.was c.items.ensures c.in_err-items.was)
 
 pub returns : goal.returns
 returns c =
     contract_met (text c.args.edition c.args.src.now) c.args.tokens.now c.args.allowance c.requires.0 c.requires.1
-      c.bump.ensures c.args.tree.now c.expect_ident.ensures c.in_ok-name.was c.expect.ensures c.in_ok-inside.was
-      c.items.ensures c.in_ok-items.was c.close_contract.ensures
+    c.bump.ensures c.args.tree.now c.expect_ident.ensures c.in_ok-name.was c.expect.ensures c.in_ok-inside.was
+    c.items.ensures c.in_ok-items.was c.close_contract.ensures

@@ -9,36 +9,31 @@ use Rattle.quanta_parser.proofs.program.contracts.Goals as goal
 pub loop-span-init : goal.loop-span-init
 loop-span-init c = run_begun contracts_law (text c.args.edition c.args.src.now) c.args.allowance c.requires
 
-pub peek-requires : goal.peek-requires
-peek-requires c = c.loop-span.invariant.ready.inside
-
-pub contract-requires : goal.contract-requires
-contract-requires c = (c.loop-span.invariant.ready, (sym c.peek.ensures ∙ c.loop-span-test.true))
-
 pub returns-in_err-contract : goal.returns-in_err-contract
 returns-in_err-contract c =
     λ x. fails_run c.from_residual.ensures.1 (run_bad contracts_law (text c.args.edition c.args.src.now)
-      c.args.allowance c.loop-span.invariant (sym c.peek.ensures ∙ c.loop-span-test.true) (failed_of
-      c.in_err-contract.was c.contract.ensures) x)
-
-pub overflow_add-count : goal.overflow_add-count
-overflow_add-count c =
-    omega (arith, c.loop-span.invariant.few, c.loop-span.invariant.ready.inside, c.loop-span.invariant.ready.fits,
-      c.requires.closed.few)
+    c.args.allowance c.loop-span.invariant (sym c.peek.ensures ∙ c.loop-span-test.true) (failed_of
+    c.in_err-contract.was c.contract.ensures) x)
 
 pub loop-span-smaller : goal.loop-span-smaller
 loop-span-smaller c =
-    omega (arith, c.loop-span.invariant.ready.inside, run_less contracts_law (text c.args.edition c.args.src.now)
-      c.args.allowance c.loop-span.invariant (sym c.peek.ensures ∙ c.loop-span-test.true) (took_of
-      c.in_ok-contract.was c.contract.ensures))
+    omega (
+      arith,
+      c.loop-span.invariant.ready.inside,
+      run_less contracts_law (text c.args.edition c.args.src.now)
+          c.args.allowance c.loop-span.invariant (sym c.peek.ensures ∙ c.loop-span-test.true) (took_of
+          c.in_ok-contract.was c.contract.ensures),
+    )
 
 pub loop-span-preserved : goal.loop-span-preserved
 loop-span-preserved c =
     run_on contracts_law (text c.args.edition c.args.src.now) c.args.allowance c.loop-span.invariant (sym
-      c.peek.ensures ∙ c.loop-span-test.true) (took_of c.in_ok-contract.was c.contract.ensures) refl
-      c.contract.auto.tree
+    c.peek.ensures ∙ c.loop-span-test.true) (took_of c.in_ok-contract.was c.contract.ensures) refl
+    c.contract.auto.tree
 
 pub returns : goal.returns
 returns c =
-    λ x. record { by = run_ends contracts_law (text c.args.edition c.args.src.now) c.args.allowance
-      c.loop-span.invariant (λ z. c.loop-span-test.false (c.peek.ensures ∙ z)) refl refl refl refl x }
+    λ x. record {
+      by = run_ends contracts_law (text c.args.edition c.args.src.now) c.args.allowance
+          c.loop-span.invariant (λ z. c.loop-span-test.false (c.peek.ensures ∙ z)) refl refl refl refl x;
+    }

@@ -10,7 +10,7 @@ use Rattle.quanta_parser.proofs.program.contracts.Given as goal
 abbrev pub invariant-loop-span : goal.invariant-loop-span
 invariant-loop-span l =
     Rolling contracts (text l.edition l.src) l.tokens l.allowance l.initial.at.0 l.initial.no.0 l.initial.span
-      l.initial.tree l.at.0 l.no.0 l.count l.span l.tree
+    l.initial.tree l.at.0 l.no.0 l.count l.span l.tree
 
 abbrev pub decreases-loop-span : goal.decreases-loop-span
 decreases-loop-span l = size l.tokens - l.at.0

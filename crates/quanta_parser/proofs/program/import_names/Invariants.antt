@@ -9,7 +9,7 @@ use Rattle.quanta_parser.proofs.program.import_names.Given as goal
 abbrev pub invariant-loop-tree : goal.invariant-loop-tree
 invariant-loop-tree l =
     (a : ℕ) → Rolling more_imports l.tokens a l.initial.at.0 l.initial.no.0 l.initial.count l.initial.tree l.at.0
-      l.no.0 l.count l.tree
+    l.no.0 l.count l.tree
 
 abbrev pub decreases-loop-tree : goal.decreases-loop-tree
 decreases-loop-tree l = size l.tokens - l.at.0

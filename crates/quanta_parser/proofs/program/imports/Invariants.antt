@@ -10,7 +10,7 @@ use Rattle.quanta_parser.proofs.program.imports.Given as goal
 abbrev pub invariant-loop-span : goal.invariant-loop-span
 invariant-loop-span l =
     (src : Text) (a : ℕ) → Rolling imports src l.tokens a l.initial.at.0 l.initial.no.0 l.initial.span l.initial.tree
-      l.at.0 l.no.0 l.count l.span l.tree
+    l.at.0 l.no.0 l.count l.span l.tree
 
 abbrev pub decreases-loop-span : goal.decreases-loop-span
 decreases-loop-span l = size l.tokens - l.at.0

@@ -10,7 +10,7 @@ use Rattle.quanta_parser.proofs.program.items.Given as goal
 abbrev pub invariant-loop-edition : goal.invariant-loop-edition
 invariant-loop-edition l =
     Rolling items (text l.edition l.src) l.tokens l.allowance l.initial.at.0 l.initial.no.0 l.initial.count
-      l.initial.tree l.at.0 l.no.0 l.count l.tree
+    l.initial.tree l.at.0 l.no.0 l.count l.tree
 
 abbrev pub decreases-loop-edition : goal.decreases-loop-edition
 decreases-loop-edition l = size l.tokens - l.at.0

@@ -18,12 +18,12 @@ returns-in_err-item-in-Item c =
     rw c.in-Item.is (
     fails_whole c.from_residual.ensures.1
     (whole_bad item_call_lem (text c.args.edition c.args.src.now) c.requires c.contract_item.ensures
-      c.in_err-item-in-Item.was))
+    c.in_err-item-in-Item.was))
 
 pub to_the_end-requires : goal.to_the_end-requires
 to_the_end-requires c =
     whole_inside item_call_lem (text c.args.edition c.args.src.now) c.requires c.contract_item.ensures
-      c.in_ok-item-in-Item.was
+    c.in_ok-item-in-Item.was
 
 pub returns-in_ok-item-in-Item : goal.returns-in_ok-item-in-Item
 returns-in_ok-item-in-Item c =
@@ -48,7 +48,7 @@ returns-in_ok-stmt-in-Stmt c =
     rw c.in-Stmt.is (
     let src = text c.args.edition c.args.src.now in
     whole_ends stmt_call_lem src c.requires (c.statement.ensures src) c.in_ok-stmt-in-Stmt.was
-      c.to_the_end-in-Stmt.ensures)
+    c.to_the_end-in-Stmt.ensures)
 
 pub returns-in_err-expr-in-Expr : goal.returns-in_err-expr-in-Expr
 returns-in_err-expr-in-Expr c =
@@ -67,4 +67,4 @@ returns-in_ok-expr-in-Expr c =
     rw c.in-Expr.is (
     let src = text c.args.edition c.args.src.now in
     whole_ends expr_call_lem src c.requires (c.expr.ensures src) c.in_ok-expr-in-Expr.was
-      c.to_the_end-in-Expr.ensures)
+    c.to_the_end-in-Expr.ensures)

@@ -15,48 +15,55 @@ imports-requires c = c.requires
 pub contracts-requires : goal.contracts-requires
 contracts-requires c =
     imported_ready (text c.args.edition c.args.src.now) c.args.tokens.now c.requires c.args.tree.now
-      (c.imports.ensures (text c.args.edition c.args.src.now) 64) c.in_ok-imports.was
+    (c.imports.ensures (text c.args.edition c.args.src.now) 64) c.in_ok-imports.was
 
 pub expect_eof-requires : goal.expect_eof-requires
 expect_eof-requires c =
     (program_ready (text c.args.edition c.args.src.now) c.args.tokens.now c.requires c.args.tree.now
-      (c.imports.ensures (text c.args.edition c.args.src.now) 64) c.in_ok-imports.was c.contracts.ensures
-      c.in_ok-contracts.was).inside
+    (c.imports.ensures (text c.args.edition c.args.src.now) 64) c.in_ok-imports.was c.contracts.ensures
+    c.in_ok-contracts.was).inside
 
 pub overflow_add-rec : goal.overflow_add-rec
 overflow_add-rec c =
-    omega (arith, program_few (text c.args.edition c.args.src.now) c.args.tokens.now c.requires c.args.tree.now
-      (c.imports.ensures (text c.args.edition c.args.src.now) 64) c.in_ok-imports.was c.contracts.ensures
-      c.in_ok-contracts.was)
+    omega (
+      arith,
+      program_few (text c.args.edition c.args.src.now) c.args.tokens.now c.requires c.args.tree.now
+          (c.imports.ensures (text c.args.edition c.args.src.now) 64) c.in_ok-imports.was c.contracts.ensures
+          c.in_ok-contracts.was,
+    )
 
 pub put-requires : goal.put-requires
-put-requires c =
-    (ready_few (program_ready (text c.args.edition c.args.src.now) c.args.tokens.now c.requires c.args.tree.now
+put-requires c = (
+  ready_few (program_ready (text c.args.edition c.args.src.now) c.args.tokens.now c.requires c.args.tree.now
       (c.imports.ensures (text c.args.edition c.args.src.now) 64) c.in_ok-imports.was c.contracts.ensures
-      c.in_ok-contracts.was), program_small (text c.args.edition c.args.src.now) c.args.tokens.now c.requires
+      c.in_ok-contracts.was),
+  program_small (text c.args.edition c.args.src.now) c.args.tokens.now c.requires
       c.args.tree.now (c.imports.ensures (text c.args.edition c.args.src.now) 64) c.in_ok-imports.was
-      c.contracts.ensures c.in_ok-contracts.was c.expect_eof.ensures c.in_ok-end.was)
+      c.contracts.ensures c.in_ok-contracts.was c.expect_eof.ensures c.in_ok-end.was,
+)
 
 pub returns-in_err-imports : goal.returns-in_err-imports
 returns-in_err-imports c =
     fails_whole c.from_residual.ensures.1 (imports_bad (text c.args.edition c.args.src.now) c.args.tokens.now
-      c.requires c.args.tree.now (c.imports.ensures (text c.args.edition c.args.src.now) 64) c.in_err-imports.was)
+    c.requires c.args.tree.now (c.imports.ensures (text c.args.edition c.args.src.now) 64) c.in_err-imports.was)
 
 pub returns-in_err-contracts : goal.returns-in_err-contracts
 returns-in_err-contracts c =
     fails_whole c.from_residual-in_err-contracts.ensures.1 (contracts_bad (text c.args.edition c.args.src.now)
-      c.args.tokens.now c.requires c.args.tree.now (c.imports.ensures (text c.args.edition c.args.src.now) 64)
-      c.in_ok-imports.was c.contracts.ensures c.in_err-contracts.was)
+    c.args.tokens.now c.requires c.args.tree.now (c.imports.ensures (text c.args.edition c.args.src.now) 64)
+    c.in_ok-imports.was c.contracts.ensures c.in_err-contracts.was)
 
 pub returns-in_err-end : goal.returns-in_err-end
 returns-in_err-end c =
     fails_whole c.from_residual-in_err-end.ensures.1 (program_more (text c.args.edition c.args.src.now)
-      c.args.tokens.now c.requires c.args.tree.now (c.imports.ensures (text c.args.edition c.args.src.now) 64)
-      c.in_ok-imports.was c.contracts.ensures c.in_ok-contracts.was c.expect_eof.ensures c.in_err-end.was)
+    c.args.tokens.now c.requires c.args.tree.now (c.imports.ensures (text c.args.edition c.args.src.now) 64)
+    c.in_ok-imports.was c.contracts.ensures c.in_ok-contracts.was c.expect_eof.ensures c.in_err-end.was)
 
 pub returns : goal.returns
 returns c =
-    record { by = program_met (text c.args.edition c.args.src.now) c.args.tokens.now c.requires c.args.tree.now
-      (c.imports.ensures (text c.args.edition c.args.src.now) 64) c.in_ok-imports.was c.contracts.ensures
-      c.in_ok-contracts.was c.expect_eof.ensures c.in_ok-end.was c.peek_span-start.ensures c.join-span.ensures
-      c.put.ensures.0 c.put.ensures.1 }
+    record {
+      by = program_met (text c.args.edition c.args.src.now) c.args.tokens.now c.requires c.args.tree.now
+          (c.imports.ensures (text c.args.edition c.args.src.now) 64) c.in_ok-imports.was c.contracts.ensures
+          c.in_ok-contracts.was c.expect_eof.ensures c.in_ok-end.was c.peek_span-start.ensures c.join-span.ensures
+          c.put.ensures.0 c.put.ensures.1;
+    }

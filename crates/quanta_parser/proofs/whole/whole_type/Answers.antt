@@ -15,8 +15,8 @@ pub returns-in_err-ty : goal.returns-in_err-ty
 returns-in_err-ty c =
     fails_whole c.from_residual.ensures.1
     (whole_bad type_call_lem (text c.args.edition c.args.src.now) {t = c.args.tree.now} c.requires {t' =
-      c.args.tree.now}
-      (failed (untyped_of c.in_err-ty.was c.ty.ensures)) refl)
+    c.args.tree.now}
+    (failed (untyped_of c.in_err-ty.was c.ty.ensures)) refl)
 
 -- the first closer of a `>>` closed it
 pub err_half-requires : goal.err_half-requires
@@ -25,7 +25,7 @@ err_half-requires c = (half_of (held c.in_ok-ty.was c.in-Half.is) c.ty.ensures).
 pub returns-in-Half : goal.returns-in-Half
 returns-in-Half c =
     type_halved (text c.args.edition c.args.src.now) c.requires (half_of (held c.in_ok-ty.was c.in-Half.is)
-      c.ty.ensures)
+    c.ty.ensures)
     c.err_half.ensures
 
 pub to_the_end-requires : goal.to_the_end-requires
