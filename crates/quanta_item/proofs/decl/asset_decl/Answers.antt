@@ -9,17 +9,6 @@ use Rattle.quanta_item.proofs.Items.{asset_key, unnamed, named, semi_shut}
 use Rattle.quanta_grammar.specs.Refine.{blank}
 use Rattle.quanta_item.proofs.decl.asset_decl.Goals as goal
 
-pub expect_ident-requires : goal.expect_ident-requires
-expect_ident-requires c =
-    (asset_key blank c.args.tokens.now 0 c.requires.0 c.bump.ensures c.args.tree.now c.requires.1).ready
-
-pub close_semi-requires : goal.close_semi-requires
-close_semi-requires c = (
-  (named (asset_key blank c.args.tokens.now 0 c.requires.0 c.bump.ensures c.args.tree.now c.requires.1)
-      c.expect_ident.ensures c.in_ok-name.was).ready,
-  ready_small c.requires.0,
-)
-
 pub returns-in_err-name : goal.returns-in_err-name
 returns-in_err-name c =
     λ src a. fails c.from_residual.ensures.1 (unnamed (asset_key src c.args.tokens.now a c.requires.0 c.bump.ensures

@@ -5,21 +5,11 @@ use Rattle.quanta_item.proofs.Blocks.{took_block, block_unopened, opened_ready, 
 use Rattle.quanta_grammar.specs.Refine.{blank}
 use Rattle.quanta_item.proofs.decl.block.Goals as goal
 
-pub stmts-requires : goal.stmts-requires
-stmts-requires c =
-    opened_ready blank c.args.tokens.now c.args.allowance c.requires c.args.tree.now c.expect.ensures
-    c.in_ok-inside.was
-
 pub expect-requires-2 : goal.expect-requires-2
 expect-requires-2 c =
     let z = filled_ready blank c.args.tokens.now c.args.allowance c.requires c.args.tree.now c.expect.ensures
     c.in_ok-inside.was (c.stmts.ensures blank) c.in_ok-body.was in
     (z.inside, z.closed.few)
-
-pub peek_span-requires-2 : goal.peek_span-requires-2
-peek_span-requires-2 c =
-    (filled_ready blank c.args.tokens.now c.args.allowance c.requires c.args.tree.now c.expect.ensures
-    c.in_ok-inside.was (c.stmts.ensures blank) c.in_ok-body.was).inside
 
 pub returns-in_err-inside : goal.returns-in_err-inside
 returns-in_err-inside c =

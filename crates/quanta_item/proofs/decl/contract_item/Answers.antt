@@ -6,15 +6,6 @@ use Rattle.quanta_cursor.proofs.Meeting.{failed}
 use Rattle.quanta_item.proofs.Items.{no_item}
 use Rattle.quanta_item.proofs.decl.contract_item.Goals as goal
 
-pub returns-in-17 : goal.returns-in-17
-returns-in-17 c = c.asset_decl.ensures (text c.args.edition c.args.src.now) c.args.allowance
-
-pub returns-in-8 : goal.returns-in-8
-returns-in-8 c = c.genesis_block.ensures (text c.args.edition c.args.src.now)
-
-pub returns-in-14 : goal.returns-in-14
-returns-in-14 c = c.invariant_decl.ensures (text c.args.edition c.args.src.now)
-
 pub returns-in_default : goal.returns-in_default
 returns-in_default c =
     failed (no_item (text c.args.edition c.args.src.now) c.args.tokens.now c.args.allowance c.requires (

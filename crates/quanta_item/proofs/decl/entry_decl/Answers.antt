@@ -10,21 +10,11 @@ use Rattle.quanta_item.proofs.Blocks.{block_of, block_failed_of, block_ready, bo
 use Rattle.quanta_item.proofs.Items.{entry_key, unnamed, named, name_few, unlisted, listed_in, all_four, four_small}
 use Rattle.quanta_item.proofs.decl.entry_decl.Goals as goal
 
-pub expect_ident-requires : goal.expect_ident-requires
-expect_ident-requires c =
-    (entry_key (text c.args.edition c.args.src.now) c.args.tokens.now c.args.allowance c.requires.0 c.bump.ensures
-    c.args.tree.now c.requires.1).ready
-
 pub returns-in_err-name : goal.returns-in_err-name
 returns-in_err-name c =
     fails c.from_residual.ensures.1 (unnamed (entry_key (text c.args.edition c.args.src.now) c.args.tokens.now
     c.args.allowance c.requires.0 c.bump.ensures c.args.tree.now c.requires.1) c.expect_ident.ensures
     c.in_err-name.was)
-
-pub param_list-requires : goal.param_list-requires
-param_list-requires c =
-    (named (entry_key (text c.args.edition c.args.src.now) c.args.tokens.now c.args.allowance c.requires.0
-    c.bump.ensures c.args.tree.now c.requires.1) c.expect_ident.ensures c.in_ok-name.was).ready
 
 pub returns-in_err-params : goal.returns-in_err-params
 returns-in_err-params c =

@@ -11,19 +11,6 @@ use Rattle.quanta_cursor.proofs.Under.{closes_as}
 use Rattle.quanta_item.proofs.Items.{event_key, unnamed, named, name_few, unlisted, listed_in, listed_count, two_small, semi_shut}
 use Rattle.quanta_item.proofs.decl.event_decl.Goals as goal
 
-pub expect_ident-requires : goal.expect_ident-requires
-expect_ident-requires c =
-    (event_key (text c.args.edition c.args.src.now) c.args.tokens.now c.args.allowance c.requires.0 c.bump.ensures
-    c.args.tree.now c.requires.1).ready
-
-pub param_list-requires : goal.param_list-requires
-param_list-requires c =
-    (named (event_key (text c.args.edition c.args.src.now) c.args.tokens.now c.args.allowance c.requires.0
-    c.bump.ensures c.args.tree.now c.requires.1) c.expect_ident.ensures c.in_ok-name.was).ready
-
-pub peek_span-requires : goal.peek_span-requires
-peek_span-requires c = c.requires.0.inside
-
 pub overflow_add-rec : goal.overflow_add-rec
 overflow_add-rec c =
     omega (

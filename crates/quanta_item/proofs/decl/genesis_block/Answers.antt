@@ -9,11 +9,6 @@ use Rattle.quanta_item.proofs.Items.{genesis_key, by_itself}
 use Rattle.quanta_grammar.specs.Refine.{blank}
 use Rattle.quanta_item.proofs.decl.genesis_block.Goals as goal
 
-pub block-requires : goal.block-requires
-block-requires c =
-    (genesis_key blank c.args.tokens.now c.args.allowance c.requires.0 c.bump.ensures c.args.tree.now
-    c.requires.1).ready
-
 pub put_decl-requires : goal.put_decl-requires
 put_decl-requires c = (
   block_ready blank c.args.allowance (genesis_key blank c.args.tokens.now c.args.allowance c.requires.0

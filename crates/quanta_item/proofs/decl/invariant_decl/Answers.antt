@@ -9,11 +9,6 @@ use Rattle.quanta_item.proofs.Items.{invariant_key, unsaid, said, semi_shut}
 use Rattle.quanta_grammar.specs.Refine.{blank}
 use Rattle.quanta_item.proofs.decl.invariant_decl.Goals as goal
 
-pub expr-requires : goal.expr-requires
-expr-requires c =
-    (invariant_key blank c.args.tokens.now c.args.allowance c.requires.0 c.bump.ensures c.args.tree.now
-    c.requires.1).ready
-
 pub close_semi-requires : goal.close_semi-requires
 close_semi-requires c = (
   (said (invariant_key blank c.args.tokens.now c.args.allowance c.requires.0 c.bump.ensures c.args.tree.now

@@ -10,17 +10,6 @@ use Rattle.quanta_cursor.proofs.Under.{closes_as}
 use Rattle.quanta_item.proofs.Items.{state_key, unopened, opened, unlisted, listed_in, listed_count, by_itself, brace_shut}
 use Rattle.quanta_item.proofs.decl.state_block.Goals as goal
 
-pub expect-requires : goal.expect-requires
-expect-requires c =
-    let z = (state_key (text c.args.edition c.args.src.now) c.args.tokens.now c.args.allowance c.requires.0
-    c.bump.ensures c.args.tree.now c.requires.1).ready in
-    (z.inside, z.closed.few)
-
-pub fields-requires : goal.fields-requires
-fields-requires c =
-    (opened (state_key (text c.args.edition c.args.src.now) c.args.tokens.now c.args.allowance c.requires.0
-    c.bump.ensures c.args.tree.now c.requires.1) c.expect.ensures c.in_ok-inside.was).ready
-
 pub close-requires : goal.close-requires
 close-requires c = (
   (listed_in fields tt (opened (state_key (text c.args.edition c.args.src.now) c.args.tokens.now c.args.allowance

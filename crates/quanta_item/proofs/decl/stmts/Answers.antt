@@ -7,9 +7,6 @@ use Rattle.quanta_cursor.proofs.Braces.{at_brace, at_eof, more_bad, more_on, mor
 use Rattle.quanta_grammar.specs.Refine.{blank}
 use Rattle.quanta_item.proofs.decl.stmts.Goals as goal
 
-pub loop-tree-init : goal.loop-tree-init
-loop-tree-init c = λ src. run_begun stmts_run c.args.allowance c.requires
-
 pub peek-requires : goal.peek-requires
 peek-requires c = (c.loop-tree.invariant blank).ready.inside
 

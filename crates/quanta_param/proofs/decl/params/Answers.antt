@@ -10,9 +10,6 @@ use Rattle.quanta_cursor.proofs.Exits.{handed, held}
 use Rattle.quanta_param.proofs.Params.{params_none, params_some}
 use Rattle.quanta_param.proofs.decl.params.Goals as goal
 
-pub peek-requires : goal.peek-requires
-peek-requires c = c.requires.inside
-
 pub returns-then-peek-eq-RPAREN : goal.returns-then-peek-eq-RPAREN
 returns-then-peek-eq-RPAREN c =
     params_none (text c.args.edition c.args.src.now) c.args.tokens.now c.args.allowance c.requires
@@ -22,19 +19,11 @@ pub loop-param-init : goal.loop-param-init
 loop-param-init c =
     begun parameters c.args.allowance c.args.tree.now c.requires
 
-pub param-requires : goal.param-requires
-param-requires c = c.loop-param.invariant.ready
-
 pub returns-in_err-param : goal.returns-in_err-param
 returns-in_err-param c =
     params_some (text c.args.edition c.args.src.now) c.args.tokens.now c.args.allowance c.requires
     (λ z. c.if-peek-eq-RPAREN.false (c.peek.ensures ∙ z))
     (no_element c.loop-param.invariant c.param.ensures c.in_err-param.was (handed c.from_residual.ensures.1) fresh)
-
--- the first closer of a `>>` closed its type
-pub overflow_add-result : goal.overflow_add-result
-overflow_add-result c =
-    omega (arith, half_few c.loop-param.invariant c.param.ensures (held c.in_ok-param.was c.in-Half.is))
 
 pub returns-in-Half : goal.returns-in-Half
 returns-in-Half c =
@@ -42,28 +31,12 @@ returns-in-Half c =
     (λ z. c.if-peek-eq-RPAREN.false (c.peek.ensures ∙ z))
     (half_element c.loop-param.invariant c.param.ensures (held c.in_ok-param.was c.in-Half.is) fresh)
 
--- a parameter is read
-pub overflow_add-count : goal.overflow_add-count
-overflow_add-count c =
-    let e = element c.loop-param.invariant c.param.ensures (held c.in_ok-param.was c.in-Whole.is) c.param.auto.tree in
-    omega (arith, one_more e, (behind e).fits, (behind e).inside, (behind e).closed.few)
-
-pub peek-requires-in-Whole : goal.peek-requires-in-Whole
-peek-requires-in-Whole c =
-    (behind (element c.loop-param.invariant c.param.ensures (held c.in_ok-param.was c.in-Whole.is)
-    c.param.auto.tree)).inside
-
 pub returns-then-peek-ne-COMMA : goal.returns-then-peek-ne-COMMA
 returns-then-peek-ne-COMMA c =
     params_some (text c.args.edition c.args.src.now) c.args.tokens.now c.args.allowance c.requires
     (λ z. c.if-peek-eq-RPAREN.false (c.peek.ensures ∙ z))
     (list_over (element c.loop-param.invariant c.param.ensures (held c.in_ok-param.was c.in-Whole.is)
     c.param.auto.tree) parameters c.peek-in-Whole.ensures c.if-peek-ne-COMMA.true fresh)
-
-pub bump-at-requires : goal.bump-at-requires
-bump-at-requires c =
-    ready_small (behind (element c.loop-param.invariant c.param.ensures (held c.in_ok-param.was c.in-Whole.is)
-    c.param.auto.tree))
 
 pub loop-param-smaller : goal.loop-param-smaller
 loop-param-smaller c =

@@ -12,17 +12,6 @@ returns-then-peek-ne-SIGNED c =
     λ src a x. missing (signer_missing src c.args.tokens.now a c.requires x (λ z. c.if-peek-ne-SIGNED.true
     (c.peek.ensures ∙ z))) refl
 
-pub expect-requires : goal.expect-requires
-expect-requires c =
-    let z = signer_past blank c.args.tokens.now 0 c.requires fresh (sym c.peek.ensures ∙ c.if-peek-ne-SIGNED.false)
-    c.bump.ensures in
-    (z.inside, z.closed.few)
-
-pub expect_ident-requires : goal.expect_ident-requires
-expect_ident-requires c =
-    by_ready blank c.args.tokens.now 0 c.requires fresh (sym c.peek.ensures ∙ c.if-peek-ne-SIGNED.false)
-    c.bump.ensures c.expect.ensures c.in_ok-next.was
-
 pub returns-in_err-next : goal.returns-in_err-next
 returns-in_err-next c =
     λ src a x. fails_opt c.from_residual.ensures.1 (signer_byless src c.args.tokens.now a c.requires x (sym

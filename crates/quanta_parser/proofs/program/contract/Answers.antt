@@ -7,23 +7,6 @@ use Rattle.quanta_cursor.proofs.Meeting.{fails}
 use Rattle.quanta_parser.proofs.Parts.{keyword_past, contract_nameless, name_ready, contract_unopened, body_ready, contract_bad, full_ready, full_few, contract_met}
 use Rattle.quanta_parser.proofs.program.contract.Goals as goal
 
-pub bump-requires : goal.bump-requires
-bump-requires c = ready_small c.requires.0
-
-pub expect_ident-requires : goal.expect_ident-requires
-expect_ident-requires c = keyword_past (code Contract) (λ u. u) c.requires.0 c.requires.1 c.bump.ensures
-
-pub expect-requires : goal.expect-requires
-expect-requires c =
-    let z = name_ready (text c.args.edition c.args.src.now) c.args.tokens.now c.args.allowance c.requires.0
-    c.requires.1 c.bump.ensures c.args.tree.now c.expect_ident.ensures c.in_ok-name.was in
-    (z.inside, z.closed.few)
-
-pub items-requires : goal.items-requires
-items-requires c =
-    body_ready (text c.args.edition c.args.src.now) c.args.tokens.now c.args.allowance c.requires.0 c.requires.1
-    c.bump.ensures c.args.tree.now c.expect_ident.ensures c.in_ok-name.was c.expect.ensures c.in_ok-inside.was
-
 pub close_contract-requires : goal.close_contract-requires
 close_contract-requires c = (
   full_ready (text c.args.edition c.args.src.now) c.args.tokens.now c.args.allowance c.requires.0 c.requires.1

@@ -9,27 +9,11 @@ use Rattle.quanta_parser.proofs.program.contracts.Goals as goal
 pub loop-span-init : goal.loop-span-init
 loop-span-init c = run_begun contracts_law (text c.args.edition c.args.src.now) c.args.allowance c.requires
 
-pub peek-requires : goal.peek-requires
-peek-requires c = c.loop-span.invariant.ready.inside
-
-pub contract-requires : goal.contract-requires
-contract-requires c = (c.loop-span.invariant.ready, (sym c.peek.ensures ∙ c.loop-span-test.true))
-
 pub returns-in_err-contract : goal.returns-in_err-contract
 returns-in_err-contract c =
     λ x. fails_run c.from_residual.ensures.1 (run_bad contracts_law (text c.args.edition c.args.src.now)
     c.args.allowance c.loop-span.invariant (sym c.peek.ensures ∙ c.loop-span-test.true) (failed_of
     c.in_err-contract.was c.contract.ensures) x)
-
-pub overflow_add-count : goal.overflow_add-count
-overflow_add-count c =
-    omega (
-      arith,
-      c.loop-span.invariant.few,
-      c.loop-span.invariant.ready.inside,
-      c.loop-span.invariant.ready.fits,
-      c.requires.closed.few,
-    )
 
 pub loop-span-smaller : goal.loop-span-smaller
 loop-span-smaller c =

@@ -7,27 +7,10 @@ use Rattle.quanta_parser.proofs.Parts.{keyword_past, import_unopened, open_ready
 use Rattle.quanta_grammar.specs.Refine.{blank}
 use Rattle.quanta_parser.proofs.program.import_decl.Goals as goal
 
-pub expect-requires : goal.expect-requires
-expect-requires c =
-    let z = keyword_past (code Import) (λ u. u) c.requires.0 c.requires.1 c.bump.ensures in
-    (z.inside, z.closed.few)
-
-pub import_names-requires : goal.import_names-requires
-import_names-requires c =
-    open_ready blank c.args.tokens.now 0 c.requires.0 c.requires.1 c.bump.ensures c.args.tree.now c.expect.ensures
-    c.in_ok-inside.was
-
 pub expect-requires-2 : goal.expect-requires-2
 expect-requires-2 c =
     let z = names_ready blank c.args.tokens.now 0 c.requires.0 c.requires.1 c.bump.ensures c.args.tree.now
     c.expect.ensures c.in_ok-inside.was c.import_names.ensures c.in_ok-names.was in
-    (z.inside, z.closed.few)
-
-pub expect-requires-3 : goal.expect-requires-3
-expect-requires-3 c =
-    let z = shut_ready blank c.args.tokens.now 0 c.requires.0 c.requires.1 c.bump.ensures c.args.tree.now
-    c.expect.ensures c.in_ok-inside.was c.import_names.ensures c.in_ok-names.was c.expect-2.ensures c.in_ok-from.was
-    in
     (z.inside, z.closed.few)
 
 pub expect_str-requires : goal.expect_str-requires

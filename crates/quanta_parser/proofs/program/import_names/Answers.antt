@@ -4,12 +4,6 @@ use Rattle.quanta_cursor.proofs.Places.{ready_small}
 use Rattle.quanta_cursor.proofs.WordLists.{fails_on, imports_law, first_bad_lem, list_begun, list_ends, comma_past, list_bad, list_on, list_less}
 use Rattle.quanta_parser.proofs.program.import_names.Goals as goal
 
-pub expect_import_name-requires : goal.expect_import_name-requires
-expect_import_name-requires c = c.requires
-
-pub loop-tree-init : goal.loop-tree-init
-loop-tree-init c = list_begun imports_law c.requires c.expect_import_name.ensures c.in_ok-first.was
-
 pub peek-requires : goal.peek-requires
 peek-requires c = (c.loop-tree.invariant 0).ready.inside
 
@@ -19,9 +13,6 @@ returns c =
       by = list_ends imports_law c.requires c.expect_import_name.ensures c.in_ok-first.was
           c.loop-tree.invariant (λ z. c.loop-tree-test.false (c.peek.ensures ∙ z)) refl refl refl src t₀ a x;
     }
-
-pub bump-requires : goal.bump-requires
-bump-requires c = ready_small (c.loop-tree.invariant 0).ready
 
 pub expect_import_name-requires-in-loop-tree : goal.expect_import_name-requires-in-loop-tree
 expect_import_name-requires-in-loop-tree c =
@@ -43,16 +34,6 @@ overflow_add-count c =
       (c.loop-tree.invariant
           0).ready.fits,
       c.requires.closed.few,
-    )
-
-pub loop-tree-smaller : goal.loop-tree-smaller
-loop-tree-smaller c =
-    omega (
-      arith,
-      (c.loop-tree.invariant 0).ready.inside,
-      list_less imports_law c.requires
-          c.expect_import_name.ensures c.in_ok-first.was c.loop-tree.invariant (sym c.peek.ensures ∙
-          c.loop-tree-test.true) c.bump.ensures c.expect_import_name-in-loop-tree.ensures c.in_ok-name.was,
     )
 
 pub loop-tree-preserved : goal.loop-tree-preserved

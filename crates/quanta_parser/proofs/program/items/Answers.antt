@@ -6,33 +6,11 @@ use Rattle.quanta_cursor.proofs.Listing.{run_begun}
 use Rattle.quanta_cursor.proofs.Braces.{at_brace, at_eof, more_bad, more_on, more_less}
 use Rattle.quanta_parser.proofs.program.items.Goals as goal
 
-pub loop-edition-init : goal.loop-edition-init
-loop-edition-init c = run_begun items_run c.args.allowance c.requires
-
-pub peek-requires : goal.peek-requires
-peek-requires c = c.loop-edition.invariant.ready.inside
-
-pub peek-requires-in-loop-edition : goal.peek-requires-in-loop-edition
-peek-requires-in-loop-edition c = c.loop-edition.invariant.ready.inside
-
-pub contract_item-requires : goal.contract_item-requires
-contract_item-requires c = c.loop-edition.invariant.ready
-
 pub returns-in_err-item : goal.returns-in_err-item
 returns-in_err-item c =
     fails_all c.from_residual.ensures.1 (more_bad items_run c.args.allowance c.requires c.loop-edition.invariant
     c.peek.ensures c.loop-edition-test.true c.peek-in-loop-edition.ensures c.if-peek-ne-EOF.true (failed_of
     c.in_err-item.was c.contract_item.ensures))
-
-pub overflow_add-count : goal.overflow_add-count
-overflow_add-count c =
-    omega (
-      arith,
-      c.loop-edition.invariant.few,
-      c.loop-edition.invariant.ready.inside,
-      c.loop-edition.invariant.ready.fits,
-      c.requires.closed.few,
-    )
 
 pub loop-edition-smaller : goal.loop-edition-smaller
 loop-edition-smaller c =

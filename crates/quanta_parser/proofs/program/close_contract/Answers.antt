@@ -1,7 +1,0 @@
--- `quanta_parser::program::close_contract` meets its contract.
--- Assumes nothing.
-use Rattle.quanta_cursor.proofs.Under.{closes_as}
-use Rattle.quanta_parser.proofs.program.close_contract.Goals as goal
-
-pub returns : goal.returns
-returns c = closes_as c.peek_span.ensures c.close.ensures
