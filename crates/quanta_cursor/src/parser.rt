@@ -284,9 +284,9 @@ pub fn err(tokens: &[u32], at: TokenPos, number: u32, wanted: u32) -> Refusal
     ensures { result ≡ err_at tokens.now at.0 number wanted }
 {
     Refusal {
-        number: number,
+        number,
         span: peek_span(tokens, at),
-        wanted: wanted,
+        wanted,
         found: peek(tokens, at),
     }
 }

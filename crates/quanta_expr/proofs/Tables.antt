@@ -10,7 +10,7 @@ use Rattle.grammar.specs.Records.{leaf_kind, flag_of}
 use Rattle.quanta_grammar.specs.NodeKind.{NodeKind, node_code}
 use Rattle.quanta_grammar.specs.Productions.{literal, outs}
 use Rattle.quanta_cursor.proofs.Sets.{Apart, apart}
-use Rattle.quanta_expr.specs.Ops.{Flag, Flags, LeafKind, Leaf, no_op, Flagged}
+use Rattle.quanta_expr.specs.Ops.{Flag, Flags, LeafKind, Leaf}
 
 -- at a token
 module _ (cs : List ℕ) (n : NodeKind) {j k : ℕ} (e : j ≡ k) {r : Option ℕ} (f : Flags cs n j r) where
@@ -34,18 +34,3 @@ module _ {j k : ℕ} (e : j ≡ k) {r : Option ℕ} (f : Leaf j r) where
   no_leaf_at z =
       let y : LeafKind j None = subst (λ (r : Option ℕ). LeafKind j r) z f.by in
       subst (λ (i : ℕ). T (has literal i) → ⊥) e y
-
--- where the answer is a number, and 14 that there is none
-pub flag_is : (cs : List ℕ) (n : NodeKind) (c r : ℕ) {k : ℕ} → k ≡ c → T (has cs c) → r ≡ flag_of outs.flags (node_code n) c → (r ≡ no_op → ⊥) → Flagged cs n k r
-flag_is cs n c r e t f z =
-    record { some = λ y. (subst (λ (i : ℕ). T (has cs i)) (sym e) t, f ∙ ap (λ (i : ℕ). flag_of outs.flags (node_code n) i) (sym e)); none = λ y. absurd (z y) }
-
-pub flag_none : (cs : List ℕ) (n : NodeKind) {k : ℕ} → Apart cs k → Flagged cs n k no_op
-flag_none cs n {k} a = record { some = λ z. absurd (z refl); none = λ y. apart cs k a }
-
-module _ (cs : List ℕ) (n : NodeKind) {j k r : ℕ} (e : j ≡ k) (f : Flagged cs n j r) where
-  pub flagged_at : (r ≡ no_op → ⊥) → T (has cs k) × (r ≡ flag_of outs.flags (node_code n) k)
-  flagged_at z = let y = f.some z in (subst (λ (i : ℕ). T (has cs i)) e y.0, y.1 ∙ ap (λ (i : ℕ). flag_of outs.flags (node_code n) i) e)
-
-  pub unflagged_at : r ≡ no_op → T (has cs k) → ⊥
-  unflagged_at z t = f.none z (subst (λ (i : ℕ). T (has cs i)) (sym e) t)

@@ -3,7 +3,7 @@
 use Rattle.std.specs.Prelude.{◌≡◌, ℕ, T, List, Option, Some, None}
 use Rattle.grammar.specs.Grammar.{has}
 use Rattle.grammar.specs.Records.{leaf_kind, flag_of}
-use Rattle.quanta_token.specs.TokenKind.{code, Checked, Wrapping}
+use Rattle.quanta_token.specs.TokenKind.{code, Checked}
 use Rattle.quanta_grammar.specs.NodeKind.{NodeKind, node_code, unary_node, binary_node, checked_node, wrapping_node}
 use Rattle.quanta_grammar.specs.Productions.{Level, operators, prefixes, literal, outs}
 
@@ -21,14 +21,6 @@ Operator v = Flags (operators v) binary_node
 abbrev pub Prefix : ℕ → Option ℕ → Type 0
 Prefix = Flags prefixes unary_node
 
--- .. where the answer is a number, and 14 that there is none
-abbrev pub no_op : ℕ
-no_op = 14
-
-pub record Flagged (cs : List ℕ) (n : NodeKind) (k r : ℕ) : Type 0 where
-  pub some : (r ≡ no_op → ⊥) → T (has cs k) × (r ≡ flag_of outs.flags (node_code n) k)
-  pub none : r ≡ no_op → T (has cs k) → ⊥
-
 -- r is the kind of the record that a token of the kind k leaves, where it is a whole expression; or there is none
 abbrev pub LeafKind : ℕ → Option ℕ → Type 0
 LeafKind k (Some r) = T (has literal k) × (r ≡ leaf_kind outs.leafs k)
@@ -37,7 +29,7 @@ LeafKind k None = T (has literal k) → ⊥
 pub record Leaf (k : ℕ) (r : Option ℕ) : Type 0 where
   pub by : LeafKind k r
 
--- r is the kind of the record that an expression under the keyword k leaves
+-- r is the kind of the record that an expression under the keyword k leaves: `checked`, or else `wrapping`
 pub record Wrapper (k r : ℕ) : Type 0 where
   pub checked : k ≡ code Checked → r ≡ node_code checked_node
-  pub wrapping : k ≡ code Wrapping → r ≡ node_code wrapping_node
+  pub wrapping : (k ≡ code Checked → ⊥) → r ≡ node_code wrapping_node

@@ -108,21 +108,17 @@ fn run_indexed(
     lexer.run(tokens)
 }
 
-// The tokens under a long table. The compiler keeps a function that calls itself out of its callers, so that the long
-// index is on the stack under long tables only; the turn more has no other use.
+// The tokens under a long table. In a frame of its own, so that the long index is on the stack under long tables only.
+#[inline(never)]
 fn run_long(
     edition: Edition,
     src: &[u8],
     words: &[u8],
     tokens: &mut [u32],
-    again: bool,
 ) -> Result<usize, Refusal>
     requires { length src.now ≤ source_limit }
     ensures { Ran edition src.now words.now tokens.old tokens.new result }
 {
-    if again {
-        return run_long(edition, src, words, tokens, false);
-    }
     let mut index = [0u16; LONG_INDEX];
     run_indexed(edition, src, words, &mut index, tokens)
 }
@@ -138,7 +134,7 @@ fn run_by_size(
     ensures { Ran edition src.now words.now tokens.old tokens.new result }
 {
     if SHORT_TABLE < words.len() {
-        return run_long(edition, src, words, tokens, src.len() == 0);
+        return run_long(edition, src, words, tokens);
     }
     let mut index = [0u16; SHORT_INDEX];
     run_indexed(edition, src, words, &mut index, tokens)

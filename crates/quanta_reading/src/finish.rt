@@ -40,10 +40,7 @@ pub fn finish(
             }
             let used = 6 * records;
             tree[used..].fill(0);
-            Ok(Counts {
-                tokens: tokens,
-                records: records,
-            })
+            Ok(Counts { tokens, records })
         }
     }
 }
