@@ -9,9 +9,10 @@ use lib.ListN.{length, get_or, drop, drop_of_length-le}
 use lib.Seq.{drop-cons}
 use lib.Dec.{ltb}
 use borrow.Author.Tests.{lt-ltb, le-ltb, eq-eqb, ne_eqb}
+use Rattle.std.specs.declared.cmp.Ordering.TheVariants.{Less, Equal, Greater}
 use Rattle.quanta_token.specs.Text.{same}
 use Rattle.quanta_words.specs.Words.{HasWord, after_at, word_at, held_in}
-use Rattle.quanta_words.specs.Index.{order_of, order_at, probe_from, probe_of}
+use Rattle.quanta_words.specs.Index.{order_of, order_at, ordering, probe_from, probe_of}
 use Rattle.quanta_words.proofs.WordLaws.{held_from, not_same, held_next}
 
 module _ (a b : List ℕ) (i : ℕ) where
@@ -68,6 +69,25 @@ order_out t i w h = sym (rw (lt-ltb _ _ h) (at (ltb (length t) i)))
     at : {n : ℕ} (b : Bool) → cond b n n ≡ n
     at true = refl
     at false = refl
+
+-- the number that an ordering is said of
+pub ordering_less : (k : ℕ) → ordering k ≡ Less → k ≡ 0
+unfolding ordering
+ordering_less zero e = refl
+ordering_less (suc zero) e = absurd (let no : ◌≡◌ {A = ℕ} 0 1 = cc in omega arith)
+ordering_less (suc (suc k)) e = absurd (let no : ◌≡◌ {A = ℕ} 0 1 = cc in omega arith)
+
+pub ordering_equal : (k : ℕ) → ordering k ≡ Equal → k ≡ 1
+unfolding ordering
+ordering_equal zero e = absurd (let no : ◌≡◌ {A = ℕ} 0 1 = cc in omega arith)
+ordering_equal (suc zero) e = refl
+ordering_equal (suc (suc k)) e = absurd (let no : ◌≡◌ {A = ℕ} 0 1 = cc in omega arith)
+
+pub ordering_greater : (k : ℕ) → ordering k ≡ Greater → 1 < k
+unfolding ordering
+ordering_greater zero e = absurd (let no : ◌≡◌ {A = ℕ} 0 1 = cc in omega arith)
+ordering_greater (suc zero) e = absurd (let no : ◌≡◌ {A = ℕ} 0 1 = cc in omega arith)
+ordering_greater (suc (suc k)) e = omega arith
 
 -- the place that halves a part, and what the word is against the record there
 abbrev pub mid : ℕ → ℕ → ℕ

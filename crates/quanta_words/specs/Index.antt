@@ -1,5 +1,7 @@
 -- A search through an index of the word table, step by step as the code makes it; and what an index must do.
 use Rattle.std.specs.Prelude.{ℕ, zero, suc, ◌+◌, ◌-◌, ◌/◌, ◌<◌, Bool, true, false, cond, List, [], ◌∷◌, ◌≡◌, length, get_or, eqb, ltb}
+use Rattle.std.specs.declared.cmp.Ordering.{Ordering}
+use Rattle.std.specs.declared.cmp.Ordering.TheVariants.{Less, Equal, Greater}
 use Rattle.quanta_words.specs.Words.{after_at, word_at, held_in}
 
 -- 0, 1 or 2: the first comes before the second, is it, comes after it
@@ -8,6 +10,12 @@ order_of [] [] = 1
 order_of [] (y ∷ ys) = 0
 order_of (x ∷ xs) [] = 2
 order_of (x ∷ xs) (y ∷ ys) = cond (ltb x y) 0 (cond (ltb y x) 2 (order_of xs ys))
+
+-- the ordering that such a number says
+unfoldable pub ordering : ℕ → Ordering
+ordering zero = Less
+ordering (suc zero) = Equal
+ordering (suc (suc n)) = Greater
 
 -- a word against the word of the record at i
 unfoldable pub order_at : List ℕ → ℕ → List ℕ → ℕ

@@ -1,35 +1,40 @@
 // An index of the word table: the places of its records, sorted by their words, so that a word is looked for in few steps. The order
 // is not relied on: what counts is checked after the sorting, that each word of the table is found through the index.
 ghost use Rattle.std.specs.Prelude.{◌≡◌, true, ◌≤◌, ◌<◌, length, take};
-ghost use Rattle.quanta_words.specs.Index.{order_of, order_at, probe_of, Covers, Indexed};
+ghost use Rattle.quanta_words.specs.Index.{order_of, order_at, ordering, probe_of, Covers, Indexed};
 
 use crate::words::word_at;
+use std::cmp::Ordering;
 
-// 0, 1 or 2: a comes before b, is b, comes after b. The slices' `cmp` would cost 10.8 bytes of `typical`, where the reach is 10.
-fn order(a: &[u8], b: &[u8]) -> u8
-    ensures { result ≡ order_of a.now b.now }
+// How a stands to b. The slices' `cmp` would cost 10.8 bytes of `typical`, where the reach is 10.
+fn order(a: &[u8], b: &[u8]) -> Ordering
+    ensures { result ≡ ordering (order_of a.now b.now) }
 {
     for i in 0..a.len() {
         if b.len() <= i {
-            return 2;
+            return Ordering::Greater;
         }
         if a[i] < b[i] {
-            return 0;
+            return Ordering::Less;
         }
         if b[i] < a[i] {
-            return 2;
+            return Ordering::Greater;
         }
     }
-    if a.len() < b.len() { 0 } else { 1 }
+    if a.len() < b.len() {
+        Ordering::Less
+    } else {
+        Ordering::Equal
+    }
 }
 
-// The order of a word and the word of the record at i; 2 where no record is.
-fn order_at(table: &[u8], i: usize, word: &[u8]) -> u8
-    ensures { result ≡ order_at table.now i word.now }
+// How a word stands to the word of the record at i; behind it where no record is.
+fn order_at(table: &[u8], i: usize, word: &[u8]) -> Ordering
+    ensures { result ≡ ordering (order_at table.now i word.now) }
 {
     match word_at(table, i) {
         Some(held) => order(word, held),
-        None => 2,
+        None => Ordering::Greater,
     }
 }
 
@@ -42,9 +47,9 @@ pub fn probe(table: &[u8], index: &[u16], word: &[u8]) -> bool
     while lo < hi {
         let mid = lo + (hi - lo) / 2;
         match order_at(table, usize::from(index[mid]), word) {
-            0 => hi = mid,
-            1 => return true,
-            _ => lo = mid + 1,
+            Ordering::Less => hi = mid,
+            Ordering::Equal => return true,
+            Ordering::Greater => lo = mid + 1,
         }
     }
     false

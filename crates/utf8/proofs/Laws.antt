@@ -5,13 +5,13 @@ use mathlib.Core.List.{List, [], ◌∷◌, ◌++◌}
 use Prim.Native.Nat.{ℕ, zero, suc, ◌+◌, ◌≤◌, ◌<◌}
 use native.Mathlib.Omega.{arith}
 use native.Mathlib.Numerals.{add-one}
-use lib.Dec.{T, ltb, leb, eqb, leb-zero}
+use lib.Dec.{ltb, leb, eqb, leb-zero}
 use lib.ListN.{length, drop, get_or, length-drop, drop_of_length-le}
 use lib.Seq.{drop-cons, drop-drop}
 use borrow.Author.Tests.{lt-ltb, le-ltb, eq-eqb, ne_eqb, eqb-false}
 use Rattle.std.specs.Prelude.{Some, None}
 use Rattle.std.proofs.lemmas.Bool.{and_parts}
-use Rattle.utf8.specs.Utf8.{Octet, fits, form_len, char_len, utf8_char, bad_from}
+use Rattle.utf8.specs.Utf8.{Octet, fits, form_len, char_len, some_len, utf8_char, bad_from}
 use Rattle.utf8.specs.Block.{ascii, every}
 
 -- by both values of a test
@@ -43,49 +43,16 @@ module _ (f : List Octet) (o : Octet) (s : List ℕ) (i : ℕ) {x : Bool} where
   pub stopped : x ≡ false → x ≡ fits f (drop i s) → x ≡ fits (f ++ (o ∷ [])) (drop i s)
   stopped t e = rw (fits_append f (o ∷ []) (drop i s), ← e, t)
 
--- the form at k, and those from k on
-abbrev pub row : List (List Octet) → ℕ → List Octet
-row fs k = get_or fs k []
+-- what the length says that is answered
+pub len_none : (k : ℕ) → None ≡ some_len k → k ≡ 0
+unfolding some_len
+len_none zero e = refl
+len_none (suc k) e = absurd (let no : ◌≡◌ {A = ℕ} 0 1 = cc in omega arith)
 
-abbrev pub from : List (List Octet) → ℕ → List (List Octet)
-from fs k = drop k fs
-
--- a flag x says whether the first form fits
-module _ (f : List Octet) (fs : List (List Octet)) (s : List ℕ) {x : Bool} where
-  pub taken : x ≡ true → x ≡ fits f s → length f ≡ form_len (f ∷ fs) s
-  unfolding form_len
-  taken t e = rw (← e, t)
-
-  pub passed : {r : ℕ} → x ≡ false → x ≡ fits f s → r ≡ form_len fs s → r ≡ form_len (f ∷ fs) s
-  unfolding form_len
-  passed t e h = rw (← e, t) h
-
--- no form is empty
-abbrev pub solid : List (List Octet) → Bool
-solid [] = true
-solid ([] ∷ fs) = false
-solid ((o ∷ f) ∷ fs) = solid fs
-
--- forms, and then others
-module _ (gs : List (List Octet)) (s : List ℕ) where
-  pub found_first : (fs : List (List Octet)) → (form_len fs s ≡ 0 → ⊥) → form_len fs s ≡ form_len (fs ++ gs) s
-  unfolding form_len
-  found_first [] h = absurd (h refl)
-  found_first (f ∷ fs) h =
-      by_test (λ b. (cond b (length f) (form_len fs s) ≡ 0 → ⊥) → cond b (length f) (form_len fs s) ≡ cond b (length f) (form_len (fs ++ gs) s)) (fits f s)
-      (λ y g. refl)
-      (λ n g. found_first fs g)
-      h
-
-  pub found_later : (fs : List (List Octet)) → T (solid fs) → form_len fs s ≡ 0 → form_len gs s ≡ form_len (fs ++ gs) s
-  unfolding form_len
-  found_later [] n h = refl
-  found_later ([] ∷ fs) n h = absurd n
-  found_later ((o ∷ f) ∷ fs) n h =
-      by_test (λ b. cond b (suc (length f)) (form_len fs s) ≡ 0 → form_len gs s ≡ cond b (suc (length f)) (form_len (fs ++ gs) s)) (fits (o ∷ f) s)
-      (λ y g. absurd (omega arith))
-      (λ z g. found_later fs n g)
-      h
+pub len_some : (k : ℕ) {n : ℕ} → Some n ≡ some_len k → (n ≡ k) × (0 < k)
+unfolding some_len
+len_some zero e = absurd (let no : ◌≡◌ {A = ℕ} 0 1 = cc in omega arith)
+len_some (suc k) e = (cc, omega arith)
 
 -- what fits lies inside
 pub fits_inside : (f : List Octet) (s : List ℕ) → fits f s ≡ true → length f ≤ length s

@@ -63,6 +63,11 @@ form_len (f ∷ fs) s = cond (fits f s) (length f) (form_len fs s)
 abbrev pub char_len : List ℕ → ℕ → ℕ
 char_len s i = form_len utf8_char (drop i s)
 
+-- the length of a sequence, where one starts
+unfoldable pub some_len : ℕ → Option ℕ
+some_len zero = None
+some_len (suc n) = Some (suc n)
+
 -- taking sequence after sequence from i on, n at most: the first offset where none starts, if there is one
 unfoldable pub bad_from : ℕ → List ℕ → ℕ → Option ℕ
 bad_from zero s i = None

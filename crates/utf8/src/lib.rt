@@ -1,8 +1,8 @@
 // UTF-8 by RFC 3629: the first offset where no well-formed sequence starts.
 #![tactic(auto)]
 
-ghost use Rattle.std.specs.Prelude.{◌≡◌, [], ◌∷◌, ◌<◌, ◌≤◌, ◌+◌, leb, length, drop};
-ghost use Rattle.utf8.specs.Utf8.{◌to◌, tail, utf8_3, utf8_4, fits, form_len, char_len, first_bad};
+ghost use Rattle.std.specs.Prelude.{◌≡◌, [], ◌∷◌, ◌<◌, ◌≤◌, ◌+◌, leb, cond, length, drop};
+ghost use Rattle.utf8.specs.Utf8.{◌to◌, tail, utf8_3, utf8_4, fits, form_len, char_len, some_len, first_bad};
 ghost use Rattle.utf8.specs.Block.{ascii, every};
 
 // Whether a byte from low to high stands at i.
@@ -39,59 +39,45 @@ fn four(s: &[u8], i: usize, low: u8, high: u8, low2: u8, high2: u8) -> bool
     three(s, i, low, high, low2, high2) && octet(s, i + 3, 0x80, 0xBF)
 }
 
-// UTF8-3: 3, or 0 where none stands at i.
-fn utf8_3(s: &[u8], i: usize) -> usize
+// Whether UTF8-3 stands at i.
+#[tactic(auto, unfolding(crate::specs::Utf8::form_len))]
+fn utf8_3(s: &[u8], i: usize) -> bool
     requires { i < length s.now }
-    ensures { result ≡ form_len utf8_3 (drop i s.now) }
+    ensures { form_len utf8_3 (drop i s.now) ≡ cond result 3 0 }
 {
-    if three(s, i, 0xE0, 0xE0, 0xA0, 0xBF) {
-        return 3;
-    }
-    if three(s, i, 0xE1, 0xEC, 0x80, 0xBF) {
-        return 3;
-    }
-    if three(s, i, 0xED, 0xED, 0x80, 0x9F) {
-        return 3;
-    }
-    if three(s, i, 0xEE, 0xEF, 0x80, 0xBF) {
-        return 3;
-    }
-    0
+    three(s, i, 0xE0, 0xE0, 0xA0, 0xBF)
+        || three(s, i, 0xE1, 0xEC, 0x80, 0xBF)
+        || three(s, i, 0xED, 0xED, 0x80, 0x9F)
+        || three(s, i, 0xEE, 0xEF, 0x80, 0xBF)
 }
 
-// UTF8-4: 4, or 0 where none stands at i.
-fn utf8_4(s: &[u8], i: usize) -> usize
+// Whether UTF8-4 stands at i.
+#[tactic(auto, unfolding(crate::specs::Utf8::form_len))]
+fn utf8_4(s: &[u8], i: usize) -> bool
     requires { i < length s.now }
-    ensures { result ≡ form_len utf8_4 (drop i s.now) }
+    ensures { form_len utf8_4 (drop i s.now) ≡ cond result 4 0 }
 {
-    if four(s, i, 0xF0, 0xF0, 0x90, 0xBF) {
-        return 4;
-    }
-    if four(s, i, 0xF1, 0xF3, 0x80, 0xBF) {
-        return 4;
-    }
-    if four(s, i, 0xF4, 0xF4, 0x80, 0x8F) {
-        return 4;
-    }
-    0
+    four(s, i, 0xF0, 0xF0, 0x90, 0xBF)
+        || four(s, i, 0xF1, 0xF3, 0x80, 0xBF)
+        || four(s, i, 0xF4, 0xF4, 0x80, 0x8F)
 }
 
-// How many bytes the well-formed sequence at i has; 0 where none starts.
-fn char_len(s: &[u8], i: usize) -> usize
+// How many bytes the well-formed sequence at i has, where one starts.
+#[tactic(auto, unfolding(crate::specs::Utf8::form_len, crate::specs::Utf8::some_len))]
+fn char_len(s: &[u8], i: usize) -> Option<usize>
     requires { i < length s.now }
-    ensures { result ≡ char_len s.now i }
+    ensures { result ≡ some_len (char_len s.now i) }
 {
     if octet(s, i, 0x00, 0x7F) {
-        return 1;
+        return Some(1);
     }
     if two(s, i, 0xC2, 0xDF, 0x80, 0xBF) {
-        return 2;
+        return Some(2);
     }
-    let n = utf8_3(s, i);
-    if n != 0 {
-        return n;
+    if utf8_3(s, i) {
+        return Some(3);
     }
-    utf8_4(s, i)
+    utf8_4(s, i).then_some(4)
 }
 
 // Whether the 32 bytes from i on are ASCII. No way out of the loop, so that it becomes wide instructions.
@@ -120,10 +106,9 @@ pub fn first_bad(s: &[u8]) -> Option<usize>
                 continue;
             }
         }
-        let n = char_len(s, i);
-        if n == 0 {
+        let Some(n) = char_len(s, i) else {
             return Some(i);
-        }
+        };
         i += n;
     }
     None
