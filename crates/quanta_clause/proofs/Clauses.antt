@@ -27,7 +27,6 @@ use Rattle.quanta_grammar.specs.Guides.{guide}
 use Rattle.quanta_grammar.specs.Reading.{targets, reads}
 use Rattle.quanta_grammar.specs.Refine.{Text, plain_kind}
 use Rattle.quanta_cursor.specs.declared.parser.TokenPos.{TokenPos}
-use Rattle.quanta_cursor.specs.declared.parser.RecordNo.{RecordNo}
 use Rattle.quanta_cursor.specs.declared.parser.Span.{Span}
 use Rattle.quanta_cursor.specs.declared.parser.Node.{Node}
 use Rattle.quanta_cursor.specs.declared.parser.Refusal.{Refusal}
@@ -37,7 +36,6 @@ use Rattle.quanta_cursor.specs.Answers.{single, Failed, Took, Meets}
 use Rattle.quanta_cursor.specs.Cursor.{joined, span_at, Expects, leaf_rec, leaf_node, Words, Closes}
 use Rattle.quanta_cursor.proofs.Sets.{coarse, fine_in, fine_kind, plain_at_lem, is_one, not_one}
 use Rattle.quanta_cursor.proofs.Places.{past_in, past_as, laid_none, laid_glue, laid_word, all_ready, all_few, ready_past, ready_word, ready_behind}
-use Rattle.quanta_cursor.proofs.Nodes.{node_of, node_is, words_are}
 use Rattle.quanta_cursor.proofs.Exits.{handed}
 use Rattle.quanta_cursor.proofs.Meeting.{next_of, lacks_of, word_of, no_word_of}
 use Rattle.quanta_cursor.proofs.Doing.{Doing, picks, skips, begin, eat, eat_fine, lack, bring, fails, fold_in, fold_fails, over, ends}
@@ -479,20 +477,3 @@ module _ {src : Text} {ws : List ℕ} {i n a : ℕ} {t : List ℕ} {y : Result A
 -- WHAT IS WRITTEN, with the kind and the span that the code computed
 pub closes_kind : {ws t : List ℕ} {want p q k k' flag own : ℕ} (s : Span) {c : ℕ} {r : Result Node Refusal} {t' : List ℕ} → k ≡ k' → Closes ws t want p q k flag own s c r t' → Closes ws t want p q k' flag own s c r t'
 closes_kind {ws} {t} {want} {p} {q} {flag = flag} {own} s {c} {r} {t'} e x = subst (λ (k : ℕ). Closes ws t want p q k flag own s c r t') e x
-
-module _ {ws t : List ℕ} {i : ℕ} {q : RecordNo} {s₀ s : Span} {t' : List ℕ} where
-  pub ends_made : {m : Node} (k : ℕ) → q.0 ≡ m.no.0 + 1 → k ≡ clause_kind (kind_at ws i) → s₀ ≡ span_at ws i → s ≡ joined s₀ m.span → t' ≡ put_rec t m.no.0 (rec_of k 0 i s.start s.end 1) → Ends ws t i m (node_of m.at q s k) t'
-  ends_made {m} k x y u v z =
-      let w = v ∙ ap (λ (s : Span). joined s m.span) u in
-      record {
-        node = ap (λ (k : ℕ). node_of m.at q s k) y ∙ node_is (clause_kind (kind_at ws i)) m.at.0 (m.no.0 + 1) refl x w;
-        words = z ∙ ap (λ (k : ℕ). put_rec t m.no.0 (rec_of k 0 i s.start s.end 1)) y ∙ ap (λ (s : Span). put_rec t m.no.0 (rec_of (clause_kind (kind_at ws i)) 0 i s.start s.end 1)) w;
-      }
-
-  pub after_made : {r : AfterTarget} → q.0 ≡ r.no.0 + 1 → s₀ ≡ span_at ws i → s ≡ joined s₀ r.span → t' ≡ put_rec t r.no.0 (rec_of (node_code after_node) r.flag i s.start s.end r.count) → EndsAfter ws t i r (node_of r.at q s (node_code after_node)) t'
-  after_made {r} x u v z =
-      let w = v ∙ ap (λ (s : Span). joined s r.span) u in
-      record {
-        node = node_is (node_code after_node) r.at.0 (r.no.0 + 1) refl x w;
-        words = words_are (node_code after_node) r.flag i r.count r.no.0 t w z;
-      }

@@ -11,6 +11,8 @@ use Rattle.quanta_cursor.specs.declared.parser.Refusal.{Refusal}
 use Rattle.quanta_cursor.specs.Tokens.{kind_at, start_at, stop_at}
 use Rattle.quanta_cursor.specs.Tree.{rec_of, put_rec}
 use Rattle.quanta_cursor.specs.declared.parser.TokenPos.{TokenPos}
+use Rattle.quanta_cursor.specs.declared.parser.RecordNo.{RecordNo}
+use Rattle.quanta_cursor.specs.declared.parser.Record.{Record}
 
 -- from the least start to the greatest end
 abbrev pub joined : Span → Span → Span
@@ -49,6 +51,10 @@ AtEof ws i (Err e) = (kind_at ws i ≡ code Eof → ⊥) × (e ≡ err_at ws i (
 
 pub record ExpectsEof (ws : List ℕ) (i : ℕ) (r : Result TokenPos Refusal) : Type 0 where
   pub by : AtEof ws i r
+
+-- the node that a record r is, which is written as number q; the token behind it is p
+abbrev pub node_written : TokenPos → RecordNo → Record → Node
+node_written p q r = record { at = p; no = record { 0 = q.0 + 1 }; span = r.span; kind = r.kind }
 
 -- a token of one of these kinds stands at i and leaves a record of the kind k; or another does, with a refusal of this number
 abbrev pub leaf_rec : List ℕ → ℕ → ℕ → Rec

@@ -9,7 +9,7 @@ ghost use Rattle.quanta_grammar.specs.NodeKind.{node_code, name_node, int_node, 
 ghost use Rattle.quanta_grammar.specs.RefusalKind.{refusal_code, expected_identifier, expected_integer, expected_import_name, expected_string};
 ghost use Rattle.quanta_cursor.specs.Tokens.{size, kind_at, Closed, Ready};
 ghost use Rattle.quanta_cursor.specs.Tree.{put_rec, written};
-ghost use Rattle.quanta_cursor.specs.Cursor.{joined, span_at, err_at, Enters, Expects, ExpectsEof, leaf_rec, leaf_node, Words, Closes};
+ghost use Rattle.quanta_cursor.specs.Cursor.{joined, span_at, err_at, Enters, Expects, ExpectsEof, leaf_rec, leaf_node, node_written, Words, Closes};
 
 use crate::{node, refusal};
 use quanta_token::token;
@@ -158,20 +158,14 @@ pub fn leaf(tokens: &[u32], tree: &mut [u32], at: TokenPos, no: RecordNo, kind: 
     requires { Ready tokens.now at.0 no.0 }
     ensures { (result ≡ leaf_node tokens.now at.0 no.0 kind) × (tree.new ≡ put_rec tree.old no.0 (leaf_rec tokens.now at.0 kind)) }
 {
-    let span = peek_span(tokens, at);
     let rec = Record {
         kind,
         flag: 0,
         own: at,
-        span,
+        span: peek_span(tokens, at),
         children: 0,
     };
-    Node {
-        at: bump(at),
-        no: put(tree, no, rec),
-        span,
-        kind,
-    }
+    put_node(tree, bump(at), no, rec)
 }
 
 // A token of one kind, whose record is of the kind `node`; or a refusal of this number.
@@ -310,6 +304,19 @@ pub fn put(tree: &mut [u32], no: RecordNo, rec: Record) -> RecordNo
     RecordNo(n + 1)
 }
 
+// Writes a record, and answers the node that it is: the token behind it is `at`.
+pub fn put_node(tree: &mut [u32], at: TokenPos, no: RecordNo, rec: Record) -> Node
+    requires { (no.0 < 4294967296) × (rec.own.0 < 4294967296) }
+    ensures { (result ≡ node_written at no rec) × (tree.new ≡ put_rec tree.old no.0 (written rec)) }
+{
+    Node {
+        at,
+        no: put(tree, no, rec),
+        span: rec.span,
+        kind: rec.kind,
+    }
+}
+
 // A closing token, which is joined to the span, and the record of what it closes.
 pub fn close(
     tokens: &[u32],
@@ -324,12 +331,7 @@ pub fn close(
 {
     let next = expect(tokens, at, want)?;
     let span = rec.span.join(peek_span(tokens, at));
-    Ok(Node {
-        at: next,
-        no: put(tree, no, Record { span, ..rec }),
-        span,
-        kind: rec.kind,
-    })
+    Ok(put_node(tree, next, no, Record { span, ..rec }))
 }
 
 // The `;` at the end of a phrase.

@@ -1,7 +1,7 @@
 -- What the tables of operators and literals tell of a token.
 -- Assumes nothing.
 use Rattle.std.specs.Prelude.{Option, Some, None}
-use mathlib.Core.Path.{◌≡◌, refl, ap, sym, subst, ◌∙◌}
+use mathlib.Core.Path.{◌≡◌, subst}
 use mathlib.Core.List.{List}
 use Prim.Native.Nat.{ℕ}
 use lib.Dec.{T}
@@ -9,7 +9,6 @@ use Rattle.grammar.specs.Grammar.{has}
 use Rattle.grammar.specs.Records.{leaf_kind, flag_of}
 use Rattle.quanta_grammar.specs.NodeKind.{NodeKind, node_code}
 use Rattle.quanta_grammar.specs.Productions.{literal, outs}
-use Rattle.quanta_cursor.proofs.Sets.{Apart, apart}
 use Rattle.quanta_expr.specs.Ops.{Flag, Flags, LeafKind, Leaf}
 
 -- at a token

@@ -14,7 +14,6 @@ use Rattle.quanta_token.specs.TokenKind.{code, LBrace, RBrace}
 use Rattle.quanta_grammar.specs.Productions.{grammar, outs, block, braces, stmts}
 use Rattle.quanta_grammar.specs.Reading.{reads}
 use Rattle.quanta_cursor.specs.declared.parser.TokenPos.{TokenPos}
-use Rattle.quanta_cursor.specs.declared.parser.RecordNo.{RecordNo}
 use Rattle.quanta_cursor.specs.declared.parser.Span.{Span}
 use Rattle.quanta_cursor.specs.declared.parser.Node.{Node}
 use Rattle.quanta_cursor.specs.declared.parser.Nodes.{Nodes}
@@ -28,11 +27,10 @@ use Rattle.quanta_cursor.proofs.Exits.{exits}
 use Rattle.quanta_cursor.proofs.Places.{laid_glue, all_ready, all_few}
 use Rattle.quanta_cursor.proofs.Meeting.{all_of, all_failed_of}
 use Rattle.quanta_cursor.proofs.Lists.{glue_none, count_glue}
-use Rattle.quanta_cursor.proofs.Nodes.{node_of, node_is}
 use Rattle.quanta_cursor.proofs.Doing.{bring, fails, over, ends}
 use Rattle.quanta_cursor.proofs.Under.{Under, starts, expects, unexpected, unphrased, alled}
 use Rattle.quanta_cursor.specs.declared.parser.Run.{Run}
-use Rattle.quanta_item.specs.Blocks.{TookBlock, AnswersBlock, MeetsBlock, decl_span, decl_rec, decl_node}
+use Rattle.quanta_item.specs.Blocks.{TookBlock, AnswersBlock, MeetsBlock, decl_rec, decl_node}
 use Rattle.quanta_grammar.specs.Refine.{Text}
 
 -- an answer that is made, and one that is taken apart
@@ -136,12 +134,6 @@ module _ {o : Outcome} {src : Text} {ws : List ℕ} {t₀ : Tok} {i a p : ℕ} {
       ∙ ap (λ (c : ℕ). over_all k.acc.row (span m.span.start m.span.end) 0 c) (sym h))
       refl (laid_glue u.laid k.laid) w refl k.inside)
 
--- spans that the code joined; a declaration's span and its node, as the code made them
+-- spans that the code joined
 pub joined_as : {s x y x' y' : Span} → s ≡ joined x y → x ≡ x' → y ≡ y' → s ≡ joined x' y'
 joined_as {x' = x'} {y'} e f h = rw (e, f, h) refl
-
-pub decl_span_lem : (ws : List ℕ) (i : ℕ) (m : Run) {s z : Span} → z ≡ span_at ws i → s ≡ joined z m.span → s ≡ decl_span ws i m
-decl_span_lem ws i m e f = joined_as f e refl
-
-pub decl_is : (ws : List ℕ) (kind i : ℕ) (m : Run) {q : RecordNo} {s : Span} → s ≡ decl_span ws i m → q.0 ≡ m.no.0 + 1 → node_of m.at q s kind ≡ decl_node ws kind i m
-decl_is ws kind i m e h = node_is kind m.at.0 (m.no.0 + 1) refl h e

@@ -38,7 +38,7 @@ use Rattle.quanta_type.specs.Halves.{half_from, half_err, TookHalf}
 use Rattle.quanta_type.proofs.Halves.{bring_any, eof_tail, eof_shown}
 use Rattle.quanta_cursor.specs.declared.parser.Run.{Run}
 use Rattle.quanta_parser.specs.Runs.{onto, last_or, TookRun, Runs}
-use Rattle.quanta_parser.specs.Whole.{TookWhole, AnswersWhole, MeetsWhole, End, Ends}
+use Rattle.quanta_parser.specs.Whole.{TookWhole, MeetsWhole, End, Ends}
 use Rattle.quanta_parser.proofs.Running.{run_of, run_failed_of}
 use Rattle.quanta_grammar.specs.Refine.{Text}
 

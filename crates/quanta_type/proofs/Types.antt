@@ -24,7 +24,6 @@ use Rattle.quanta_grammar.specs.Productions.{outs, type_name, closer, type, type
 use Rattle.quanta_grammar.specs.Productions.{named_type, some_type_args, no_type_args, int_arg, type_as_arg, some_of, no_of}
 use Rattle.quanta_grammar.specs.Reading.{reads}
 use Rattle.quanta_grammar.specs.Refine.{Text, plain_kind}
-use Rattle.quanta_cursor.specs.declared.parser.RecordNo.{RecordNo}
 use Rattle.quanta_cursor.specs.declared.parser.Span.{Span}
 use Rattle.quanta_cursor.specs.declared.parser.Node.{Node}
 use Rattle.quanta_cursor.specs.declared.parser.Nodes.{Nodes}
@@ -370,14 +369,17 @@ module _ (src : Text) (ws : List ℕ) {at n : ℕ} (g : Ready ws at n) (w : kind
         pub arg_few : k.no.0 < 4294967296
         arg_few = let y = ap (λ (m : Node). m.no.0) (word_of z v).1 in omega (arith, (arg_ready q).inside, (arg_ready q).fits, g.closed.few)
 
-        pub arg_took : (a : ℕ) {t : List ℕ} {p : RecordNo} {s : Span} {t₃ : List ℕ} → t₁ ≡ put_rec t n (leaf_rec ws at (node_code int_node)) → s ≡ joined m.span k.span → p.0 ≡ k.no.0 + 1
-            → t₃ ≡ put_rec t₂ k.no.0 (rec_of (node_code m_of_n_node) 0 m.at.0 s.start s.end 2) → Took (reads type_arg a (from src ws at) fresh) src ws t n (node_of k.at p s (node_code m_of_n_node)) t₃
+        pub arg_took : (a : ℕ) {t : List ℕ} {p : Node} {s : Span} {t₃ : List ℕ} → t₁ ≡ put_rec t n (leaf_rec ws at (node_code int_node))
+            → s ≡ joined m.span k.span → p ≡ node_of k.at (record { 0 = k.no.0 + 1 }) s (node_code m_of_n_node)
+            → t₃ ≡ put_rec t₂ k.no.0 (rec_of (node_code m_of_n_node) 0 m.at.0 s.start s.end 2)
+            → Took (reads type_arg a (from src ws at) fresh) src ws t n p t₃
         arg_took a {t} {p} {s} {t₃} y l u j =
             let d = word_of z v in
             let no : k.no.0 ≡ n + 1 + 1 = ap (λ (m : Node). m.no.0) d.1 ∙ ap (λ (j : ℕ). j + 1) no_of_int in
             let sp : s ≡ joined (span_at ws at) (span_at ws (at + 1 + 1)) = l ∙ ap (λ (m : Node). joined m.span k.span) x ∙ ap (λ (m : Node). joined (span_at ws at) m.span) d.1 ∙ ap (λ (j : ℕ). joined (span_at ws at) (span_at ws j)) second in
             of_took src ws at a g.inside g.closed w spelt (has_one (kind_at ws (at + 1 + 1)) (code Int) (subst (λ (j : ℕ). T (has (code Int ∷ []) (kind_at ws j))) second d.0))
-            (node_is (node_code m_of_n_node) (at + 1 + 1 + 1) (n + 1 + 1 + 1) (ap (λ (m : Node). m.at.0) d.1 ∙ ap (λ (j : ℕ). j + 1) second) (u ∙ ap (λ (j : ℕ). j + 1) no) sp)
+            (u ∙ node_is (node_code m_of_n_node) (at + 1 + 1 + 1) (n + 1 + 1 + 1)
+            (ap (λ (m : Node). m.at.0) d.1 ∙ ap (λ (j : ℕ). j + 1) second) (ap (λ (j : ℕ). j + 1) no) sp)
             (words_are (node_code m_of_n_node) 0 m.at.0 2 k.no.0 t₂ sp j ∙ written (d.2 ∙ ap (λ (t : List ℕ). put_rec t m.no.0 (leaf_rec ws i (node_code int_node))) y) no)
           where
             written : t₂ ≡ put_rec (put_rec t n (leaf_rec ws at (node_code int_node))) m.no.0 (leaf_rec ws i (node_code int_node)) → k.no.0 ≡ n + 1 + 1

@@ -15,7 +15,7 @@ use crate::half::{Typed, back_span, front_span, is_pair};
 use crate::text::is_of;
 use quanta_cursor::parser::{
     Node, Nodes, Record, RecordNo, Refusal, Span, TokenPos, bump, enter, err, expect, expect_int,
-    leaf, peek, peek_span, put,
+    leaf, peek, peek_span, put_node,
 };
 use quanta_cursor::{node, refusal};
 use quanta_token::edition::Edition;
@@ -128,20 +128,14 @@ fn int_arg(
         return Ok(Typed::Whole(m));
     }
     let n = expect_int(tokens, tree, bump(of), m.no)?;
-    let span = m.span.join(n.span);
     let rec = Record {
         kind: node::M_OF_N,
         flag: 0,
         own: of,
-        span,
+        span: m.span.join(n.span),
         children: 2,
     };
-    Ok(Typed::Whole(Node {
-        at: n.at,
-        no: put(tree, n.no, rec),
-        span,
-        kind: node::M_OF_N,
-    }))
+    Ok(Typed::Whole(put_node(tree, n.at, n.no, rec)))
 }
 
 // What closes the arguments of the type whose name is the token at `name`: `>`, or the first closer of a `>>`.
@@ -194,18 +188,12 @@ fn put_type(
     ensures { TypeUpTo tokens.now tree.old args.no.0 name.0 args.count end next.0 result tree.new }
 {
     let first = peek_span(tokens, name);
-    let span = first.join(end);
     let rec = Record {
         kind: node::TYPE,
         flag: 0,
         own: name,
-        span,
+        span: first.join(end),
         children: args.count,
     };
-    Node {
-        at: next,
-        no: put(tree, args.no, rec),
-        span,
-        kind: node::TYPE,
-    }
+    put_node(tree, next, args.no, rec)
 }

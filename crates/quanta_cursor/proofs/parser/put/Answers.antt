@@ -1,8 +1,6 @@
 -- `quanta_cursor::parser::put` meets its contract.
 -- Assumes nothing.
 use borrow.Author.Tests.{lt-ltb, le-ltb}
-use native.Mathlib.Omega.{arith}
-use lib.ListN.{length-set}
 use Rattle.quanta_cursor.specs.Tree.{put_rec}
 use borrow.Author.Rules.{rules}
 use Rattle.quanta_cursor.proofs.parser.put.Goals as goal

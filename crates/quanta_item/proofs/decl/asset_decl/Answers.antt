@@ -2,11 +2,9 @@
 -- Assumes nothing.
 use mathlib.Core.Path.{refl}
 use Rattle.quanta_grammar.specs.NodeKind.{node_code, asset_node}
-use Rattle.quanta_cursor.proofs.Places.{ready_small}
 use Rattle.quanta_cursor.proofs.Meeting.{fails}
 use Rattle.quanta_cursor.proofs.Under.{closes_as}
 use Rattle.quanta_item.proofs.Items.{asset_key, unnamed, named, semi_shut}
-use Rattle.quanta_grammar.specs.Refine.{blank}
 use Rattle.quanta_item.proofs.decl.asset_decl.Goals as goal
 
 pub returns-in_err-name : goal.returns-in_err-name

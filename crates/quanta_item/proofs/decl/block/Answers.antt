@@ -1,7 +1,7 @@
 -- `quanta_item::decl::block` meets its contract.
 -- Assumes nothing.
 use mathlib.Core.Path.{refl}
-use Rattle.quanta_item.proofs.Blocks.{took_block, block_unopened, opened_ready, block_bad, filled_ready, block_unclosed, block_took, joined_as, fails_block}
+use Rattle.quanta_item.proofs.Blocks.{took_block, block_unopened, block_bad, filled_ready, block_unclosed, block_took, joined_as, fails_block}
 use Rattle.quanta_grammar.specs.Refine.{blank}
 use Rattle.quanta_item.proofs.decl.block.Goals as goal
 

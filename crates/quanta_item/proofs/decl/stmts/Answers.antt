@@ -2,7 +2,6 @@ use mathlib.Core.Path.{refl}
 use native.Mathlib.Omega.{arith}
 use Rattle.quanta_cursor.proofs.Meeting.{took_all, took_of, failed_of, fails_all}
 use Rattle.quanta_cursor.proofs.Lists.{stmts_run}
-use Rattle.quanta_cursor.proofs.Listing.{run_begun}
 use Rattle.quanta_cursor.proofs.Braces.{at_brace, at_eof, more_bad, more_on, more_less}
 use Rattle.quanta_grammar.specs.Refine.{blank}
 use Rattle.quanta_item.proofs.decl.stmts.Goals as goal

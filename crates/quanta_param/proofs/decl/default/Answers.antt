@@ -1,11 +1,9 @@
 -- `quanta_param::decl::default` meets its contract.
 -- Assumes nothing.
 use mathlib.Core.Path.{refl, sym, ◌∙◌}
-use Rattle.grammar.specs.Records.{fresh}
 use Rattle.quanta_cursor.proofs.Meeting.{took_of, failed_of}
 use Rattle.quanta_param.proofs.Options.{missing, took_opt, fails_opt}
-use Rattle.quanta_param.proofs.Fields.{default_missing, default_past, default_bad, default_took}
-use Rattle.quanta_grammar.specs.Refine.{blank}
+use Rattle.quanta_param.proofs.Fields.{default_missing, default_bad, default_took}
 use Rattle.quanta_param.proofs.decl.default.Goals as goal
 
 pub returns-then-peek-ne-EQ : goal.returns-then-peek-ne-EQ

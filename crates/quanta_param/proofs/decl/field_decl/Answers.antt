@@ -2,10 +2,9 @@
 -- Assumes nothing.
 use Rattle.quanta_grammar.specs.Refine.{text}
 use mathlib.Core.Path.{refl}
-use native.Mathlib.Omega.{arith}
 use Rattle.quanta_cursor.proofs.Meeting.{failed, fails}
 use Rattle.quanta_cursor.proofs.Exits.{held}
-use Rattle.quanta_param.proofs.Fields.{meta_ready, meta_few, field_nameless, named_ready, field_colonless, colon_ready, field_typeless, half_place, field_halved, typed_ready, field_defaultless, field_plain, default_ready, field_valued}
+use Rattle.quanta_param.proofs.Fields.{field_nameless, named_ready, field_colonless, field_typeless, field_halved, typed_ready, field_defaultless, field_plain, default_ready, field_valued}
 use Rattle.quanta_param.proofs.decl.field_decl.Goals as goal
 
 pub default-requires : goal.default-requires

@@ -2,11 +2,10 @@
 -- Assumes nothing.
 use Rattle.quanta_grammar.specs.Refine.{text}
 use mathlib.Core.Path.{refl}
-use native.Mathlib.Omega.{arith}
 use Rattle.quanta_cursor.proofs.Places.{ready_small, ready_few}
 use Rattle.quanta_type.proofs.Types.{type_took, type_half, type_fails}
 use Rattle.quanta_cursor.proofs.Exits.{held}
-use Rattle.quanta_param.proofs.Params.{param_nameless, named_ready, param_colonless, colon_ready, sealed_ready, sealed_few, param_typeless, half_typed_ready, param_half, typed_ready, param_missigned, param_plain, signed_ready, param_signed}
+use Rattle.quanta_param.proofs.Params.{param_nameless, named_ready, param_colonless, param_typeless, half_typed_ready, param_half, typed_ready, param_missigned, param_plain, signed_ready, param_signed}
 use Rattle.quanta_param.proofs.decl.param.Goals as goal
 
 pub end_param-requires : goal.end_param-requires

@@ -4,7 +4,7 @@ use Rattle.quanta_grammar.specs.Refine.{text}
 use mathlib.Core.Path.{refl}
 use Rattle.quanta_cursor.proofs.Meeting.{took_all, failed_all, fails_all}
 use Rattle.quanta_cursor.proofs.Exits.{held}
-use Rattle.quanta_param.proofs.Params.{list_unopened, open_ready, list_refused, half_place, list_halved, full_ready, list_unclosed, list_closed}
+use Rattle.quanta_param.proofs.Params.{list_unopened, list_refused, list_halved, list_unclosed, list_closed}
 use Rattle.quanta_param.proofs.decl.param_list.Goals as goal
 
 pub returns-in_err-inside : goal.returns-in_err-inside

@@ -2,10 +2,9 @@ use mathlib.Core.Path.{refl, sym, ◌∙◌}
 use native.Mathlib.Omega.{arith}
 use Rattle.grammar.specs.Records.{fresh}
 use Rattle.quanta_grammar.specs.Refine.{text}
-use Rattle.quanta_cursor.proofs.Places.{ready_small}
 use Rattle.quanta_cursor.proofs.Lists.{parameters}
-use Rattle.quanta_type.proofs.Arguments.{begun, no_element, half_element, half_few, element}
-use Rattle.quanta_type.proofs.Arguments.{behind, one_more, list_over, next_awaits, next_further}
+use Rattle.quanta_type.proofs.Arguments.{begun, no_element, half_element, element}
+use Rattle.quanta_type.proofs.Arguments.{list_over, next_awaits, next_further}
 use Rattle.quanta_cursor.proofs.Exits.{handed, held}
 use Rattle.quanta_param.proofs.Params.{params_none, params_some}
 use Rattle.quanta_param.proofs.decl.params.Goals as goal

@@ -1,10 +1,8 @@
 -- `quanta_param::decl::signed_by` meets its contract.
 -- Assumes nothing.
 use mathlib.Core.Path.{refl, sym, ◌∙◌}
-use Rattle.grammar.specs.Records.{fresh}
 use Rattle.quanta_param.proofs.Options.{missing, took_opt, fails_opt}
-use Rattle.quanta_param.proofs.Params.{signer_missing, signer_past, signer_byless, by_ready, signer_nameless, signer_took}
-use Rattle.quanta_grammar.specs.Refine.{blank}
+use Rattle.quanta_param.proofs.Params.{signer_missing, signer_byless, signer_nameless, signer_took}
 use Rattle.quanta_param.proofs.decl.signed_by.Goals as goal
 
 pub returns-then-peek-ne-SIGNED : goal.returns-then-peek-ne-SIGNED

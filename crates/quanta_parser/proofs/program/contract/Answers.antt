@@ -1,10 +1,8 @@
 -- `quanta_parser::program::contract` meets its contract.
 -- Assumes nothing.
 use Rattle.quanta_grammar.specs.Refine.{text}
-use Rattle.quanta_token.specs.TokenKind.{code, Contract}
-use Rattle.quanta_cursor.proofs.Places.{ready_small}
 use Rattle.quanta_cursor.proofs.Meeting.{fails}
-use Rattle.quanta_parser.proofs.Parts.{keyword_past, contract_nameless, name_ready, contract_unopened, body_ready, contract_bad, full_ready, full_few, contract_met}
+use Rattle.quanta_parser.proofs.Parts.{contract_nameless, contract_unopened, contract_bad, full_ready, full_few, contract_met}
 use Rattle.quanta_parser.proofs.program.contract.Goals as goal
 
 pub close_contract-requires : goal.close_contract-requires

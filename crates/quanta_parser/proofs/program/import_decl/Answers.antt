@@ -1,9 +1,8 @@
 -- `quanta_parser::program::import_decl` meets its contract.
 -- Assumes nothing.
 use native.Mathlib.Omega.{arith}
-use Rattle.quanta_token.specs.TokenKind.{code, Import}
 use Rattle.quanta_cursor.proofs.Meeting.{fails}
-use Rattle.quanta_parser.proofs.Parts.{keyword_past, import_unopened, open_ready, import_nameless, names_ready, names_few, import_unclosed, shut_ready, import_fromless, from_ready, import_pathless, path_ready, import_met}
+use Rattle.quanta_parser.proofs.Parts.{import_unopened, import_nameless, names_ready, names_few, import_unclosed, import_fromless, from_ready, import_pathless, path_ready, import_met}
 use Rattle.quanta_grammar.specs.Refine.{blank}
 use Rattle.quanta_parser.proofs.program.import_decl.Goals as goal
 

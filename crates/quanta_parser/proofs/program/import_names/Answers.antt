@@ -1,7 +1,6 @@
 use mathlib.Core.Path.{refl, sym, ◌∙◌}
 use native.Mathlib.Omega.{arith}
-use Rattle.quanta_cursor.proofs.Places.{ready_small}
-use Rattle.quanta_cursor.proofs.WordLists.{fails_on, imports_law, first_bad_lem, list_begun, list_ends, comma_past, list_bad, list_on, list_less}
+use Rattle.quanta_cursor.proofs.WordLists.{fails_on, imports_law, first_bad_lem, list_ends, comma_past, list_bad, list_on}
 use Rattle.quanta_parser.proofs.program.import_names.Goals as goal
 
 pub peek-requires : goal.peek-requires

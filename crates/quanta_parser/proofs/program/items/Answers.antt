@@ -2,7 +2,6 @@ use mathlib.Core.Path.{refl}
 use native.Mathlib.Omega.{arith}
 use Rattle.quanta_cursor.proofs.Meeting.{took_of, failed_of, took_all, fails_all}
 use Rattle.quanta_cursor.proofs.Lists.{items_run}
-use Rattle.quanta_cursor.proofs.Listing.{run_begun}
 use Rattle.quanta_cursor.proofs.Braces.{at_brace, at_eof, more_bad, more_on, more_less}
 use Rattle.quanta_parser.proofs.program.items.Goals as goal
 

@@ -1,5 +1,7 @@
 -- `quanta_parser::whole::whole_program` meets its contract.
 -- Assumes nothing.
+use mathlib.Core.Path.{ap}
+use Rattle.quanta_cursor.specs.declared.parser.Node.{Node}
 use Rattle.quanta_grammar.specs.Refine.{text}
 use native.Mathlib.Omega.{arith}
 use Rattle.quanta_cursor.proofs.Places.{ready_few}
@@ -32,8 +34,8 @@ overflow_add-rec c =
           c.in_ok-contracts.was,
     )
 
-pub put-requires : goal.put-requires
-put-requires c = (
+pub put_node-requires : goal.put_node-requires
+put_node-requires c = (
   ready_few (program_ready (text c.args.edition c.args.src.now) c.args.tokens.now c.requires c.args.tree.now
       (c.imports.ensures (text c.args.edition c.args.src.now) 64) c.in_ok-imports.was c.contracts.ensures
       c.in_ok-contracts.was),
@@ -64,6 +66,6 @@ returns c =
     record {
       by = program_met (text c.args.edition c.args.src.now) c.args.tokens.now c.requires c.args.tree.now
           (c.imports.ensures (text c.args.edition c.args.src.now) 64) c.in_ok-imports.was c.contracts.ensures
-          c.in_ok-contracts.was c.expect_eof.ensures c.in_ok-end.was c.peek_span-start.ensures c.join-span.ensures
-          c.put.ensures.0 c.put.ensures.1;
+          c.in_ok-contracts.was c.expect_eof.ensures c.in_ok-end.was c.peek_span-start.ensures c.join.ensures
+          (ap (λ (m : Node). m.no.0) c.put_node.ensures.0) c.put_node.ensures.1;
     }

@@ -5,7 +5,7 @@ use Rattle.quanta_grammar.specs.Refine.{text}
 use Rattle.quanta_cursor.proofs.Exits.{held}
 use Rattle.quanta_cursor.proofs.Meeting.{took, failed}
 use Rattle.quanta_type.proofs.Types.{typed_of, half_of, untyped_of}
-use Rattle.quanta_parser.proofs.Wholes.{type_call_lem, fails_whole, whole_bad, whole_inside, whole_ends, type_halved}
+use Rattle.quanta_parser.proofs.Wholes.{type_call_lem, fails_whole, whole_bad, whole_ends, type_halved}
 use Rattle.quanta_parser.proofs.whole.whole_type.Goals as goal
 
 pub ty-requires : goal.ty-requires
