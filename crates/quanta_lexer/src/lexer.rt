@@ -172,6 +172,8 @@ fn read_source(
 }
 
 // The whole reading of bytes into tokens: the answer and every word of the buffer. What no record fills is cleared.
+// In a frame of its own, so that the chart and the index are off the stack when the parser begins.
+#[inline(never)]
 pub fn tokenize(
     edition: Edition,
     src: &[u8],
