@@ -6,7 +6,7 @@
  * and the same answers. An archive needs nothing but memcpy, memset and their like, keeps nothing between
  * calls and allocates nothing, so that any number of threads may call it, each on buffers of its own.
  *
- * Stack that a call was seen to take at most (docs/PERFORMANCE.md): 103 KB of the desk's archive, 12 KB of the
+ * Stack that a call was seen to take at most (docs/PERFORMANCE.md): 107 KB of the desk's archive, 14 KB of the
  * terminal's; under a word table of more than 8,192 bytes 43 KB of either, if that is more.
  *
  * Document 01 (docs/01-scope.md) says what each answer is, and for edition 2 request R-6 of document 02.
