@@ -25,11 +25,11 @@ peak() {
 both() {
     echo "$(peak "$work/$1" "$2") ($(awk -v name="$2" '$1 == name { print $3 }' "$work/$1.alone"))"
 }
-printf '%-28s %6s %18s %18s %9s\n' program answer desk terminal original
-printf '%-28s %6s %18s %18s\n' 'none: no call' - "$(peak "$work/quanta" none)" "$(peak "$work/quanta_terminal" none)"
+printf '%-34s %6s %18s %18s %9s\n' program answer desk terminal original
+printf '%-34s %6s %18s %18s\n' 'none: no call' - "$(peak "$work/quanta" none)" "$(peak "$work/quanta_terminal" none)"
 while read -r name answer _; do
     "$work/quanta" "$name" source >"$work/source.quanta"
     original=-
     [[ $name == table* || $name == *two-closers || $name == *edition-2 ]] || original=$(peak host/target/release/oracle "$work/source.quanta")
-    printf '%-28s %6s %18s %18s %9s\n' "$name" "$answer" "$(both quanta "$name")" "$(both quanta_terminal "$name")" "$original"
+    printf '%-34s %6s %18s %18s %9s\n' "$name" "$answer" "$(both quanta "$name")" "$(both quanta_terminal "$name")" "$original"
 done <"$work/quanta.alone"

@@ -1,5 +1,5 @@
-// An index of the word table: the places of its records, sorted by their words, so that a word is looked for in few steps. The order
-// is not relied on: what counts is checked after the sorting, that each word of the table is found through the index.
+// An index of the word table: the places of its records, sorted by their words, so that a word is looked for in few steps. The sorting
+// is not proved to sort: what counts is checked after it, that each word of the table is found through the index.
 ghost use Rattle.std.specs.Prelude.{◌≡◌, true, ◌≤◌, ◌<◌, length, take};
 ghost use Rattle.quanta_words.specs.Index.{order_of, order_at, ordering, probe_of, Covers, Indexed};
 
@@ -74,6 +74,49 @@ fn entry(table: &[u8], place: u16) -> &[u8] {
     word_at(table, usize::from(place)).unwrap_or_default()
 }
 
+// Whether a word comes before that of the record at a place.
+fn before(table: &[u8], word: &[u8], place: u16) -> bool {
+    order_at(table, usize::from(place), word) == Ordering::Less
+}
+
+// Puts the entry at `root` where it belongs in a heap, where none comes before the two below it, at twice its place plus 1 and 2.
+fn sink(table: &[u8], index: &mut [u16], mut root: usize)
+    requires { root < length index.old }
+{
+    let word = entry(table, index[root]);
+    while root < index.len() / 2 {
+        let mut child = 2 * root + 1;
+        if child + 1 < index.len() && before(table, entry(table, index[child]), index[child + 1]) {
+            child += 1;
+        }
+        if !before(table, word, index[child]) {
+            return;
+        }
+        index.swap(root, child);
+        root = child;
+    }
+}
+
+// Makes the entries a heap.
+fn heap(table: &[u8], index: &mut [u16]) {
+    for root in (0..index.len() / 2).rev() {
+        sink(table, index, root);
+    }
+}
+
+// Sorts the entries by their words, if they are not in order. A heap sort: std's `sort_unstable_by` calls itself, and its
+// other sorts allocate.
+fn sort(table: &[u8], index: &mut [u16]) {
+    if index.is_sorted_by(|a, b| !before(table, entry(table, *b), *a)) {
+        return;
+    }
+    heap(table, index);
+    for end in (1..index.len()).rev() {
+        index.swap(0, end);
+        sink(table, &mut index[..end], 0);
+    }
+}
+
 // The places of the records in order, as far as there is room; and how many there are.
 fn places(table: &[u8], index: &mut [u16]) -> usize
     ensures { result ≤ length index.old }
@@ -123,7 +166,7 @@ pub fn index_words(table: &[u8], index: &mut [u16]) -> usize
     ensures { (result ≤ length index.new) × Indexed table.now (take result index.new) }
 {
     let n = places(table, index);
-    index[..n].sort_unstable_by(|a, b| entry(table, *a).cmp(&entry(table, *b)));
+    sort(table, &mut index[..n]);
     let m = unique(table, index, n);
     if covers(table, &index[..m]) {
         return m;

@@ -64,17 +64,37 @@ const LONG_TABLE: usize = 44 * 1024;
 fn calls_keep_to_little_stack() {
     let output = run(&compiled("cc", "gnu11", "stack.c"), &[]);
     let said = String::from_utf8(output.stdout).unwrap();
-    assert_eq!(said.lines().count(), 17, "{said}");
+    assert_eq!(said.lines().count(), 19, "{said}");
     for line in said.lines() {
         let fields: Vec<&str> = line.split(' ').collect();
         let deepest = match fields[0] {
-            "table-of-8200-bytes" | "table-of-65536-bytes" => LONG_TABLE,
+            "table-of-8200-bytes" | "table-of-65536-bytes" | "table-of-65536-bytes-in-no-order" => {
+                LONG_TABLE
+            }
             _ => DEEPEST,
         };
         assert!(fields[2].parse::<usize>().unwrap() <= deepest, "{line}");
         let too_deep = ["64-parentheses", "65-types", "66-types-by-two-closers"];
         let refused = too_deep.contains(&fields[0]);
         assert_eq!(fields[1], if refused { "20" } else { "0" }, "{line}");
+    }
+}
+
+// The bytes of stack behind a name.
+fn taken(said: &str, name: &str) -> usize {
+    let line = said.lines().find(|line| line.split(' ').next() == Some(name));
+    line.unwrap().split(' ').nth(2).unwrap().parse().unwrap()
+}
+
+// But for what the calls within may write below their frames.
+#[test]
+fn a_table_takes_the_same_stack_in_any_order() {
+    let output = run(&compiled("cc", "gnu17", "stack.c"), &[]);
+    let said = String::from_utf8(output.stdout).unwrap();
+    for table in ["table-of-8192-bytes", "table-of-65536-bytes"] {
+        let in_order = taken(&said, table);
+        let in_none = taken(&said, &format!("{table}-in-no-order"));
+        assert!(in_none <= in_order + 128, "{said}");
     }
 }
 

@@ -14,33 +14,36 @@
 #define ASSIGNED "contract C { entry e() { x = ", "; } }"
 #define TYPED "contract C { state { a: ", "; } }"
 
-/* What stands around so many times `open`, the middle, and as many times `close`; a word table's length in bytes; the edition. */
+/* What stands around so many times `open`, the middle, and as many times `close`; a word table's length in bytes; the edition;
+ * how many words on in their order each word of the table is from the one before it. */
 struct nested {
     const char *name, *front, *back, *open;
     int times;
     const char *middle, *close;
     size_t table;
-    uint32_t edition;
+    uint32_t edition, step;
 };
 
 static const struct nested all[] = {
-    {"no-nesting", ASSIGNED, "", 0, "1", "", 0, 1},
-    {"63-parentheses", ASSIGNED, "(", 63, "1", ")", 0, 1},
-    {"64-parentheses", ASSIGNED, "(", 64, "1", ")", 0, 1},
-    {"63-prefixes", ASSIGNED, "-", 63, "1", "", 0, 1},
-    {"63-call-links", ASSIGNED, "", 63, "f", "()", 0, 1},
-    {"31-calls-in-arguments", ASSIGNED, "f(", 31, "1", ")", 0, 1},
-    {"63-checked", ASSIGNED, "checked(", 63, "1", ")", 0, 1},
-    {"63-operators", ASSIGNED, "", 63, "1", "+1", 0, 1},
-    {"31-operators-in-parentheses", ASSIGNED, "1+(", 31, "1", ")", 0, 1},
-    {"64-types", TYPED, "A<", 64, "A", " >", 0, 1},
-    {"65-types", TYPED, "A<", 65, "A", " >", 0, 1},
-    {"table-of-8192-bytes", ASSIGNED, "", 0, "1", "", 8192, 1},
-    {"table-of-8200-bytes", ASSIGNED, "", 0, "1", "", 8200, 1},
-    {"table-of-65536-bytes", ASSIGNED, "", 0, "1", "", 65536, 1},
-    {"64-types-by-two-closers", TYPED, "A<A<", 32, "A", ">>", 0, 2},
-    {"66-types-by-two-closers", TYPED, "A<A<", 33, "A", ">>", 0, 2},
-    {"63-parentheses-in-edition-2", ASSIGNED, "(", 63, "@2024-02-29", ")", 0, 2},
+    {"no-nesting", ASSIGNED, "", 0, "1", "", 0, 1, 1},
+    {"63-parentheses", ASSIGNED, "(", 63, "1", ")", 0, 1, 1},
+    {"64-parentheses", ASSIGNED, "(", 64, "1", ")", 0, 1, 1},
+    {"63-prefixes", ASSIGNED, "-", 63, "1", "", 0, 1, 1},
+    {"63-call-links", ASSIGNED, "", 63, "f", "()", 0, 1, 1},
+    {"31-calls-in-arguments", ASSIGNED, "f(", 31, "1", ")", 0, 1, 1},
+    {"63-checked", ASSIGNED, "checked(", 63, "1", ")", 0, 1, 1},
+    {"63-operators", ASSIGNED, "", 63, "1", "+1", 0, 1, 1},
+    {"31-operators-in-parentheses", ASSIGNED, "1+(", 31, "1", ")", 0, 1, 1},
+    {"64-types", TYPED, "A<", 64, "A", " >", 0, 1, 1},
+    {"65-types", TYPED, "A<", 65, "A", " >", 0, 1, 1},
+    {"table-of-8192-bytes", ASSIGNED, "", 0, "1", "", 8192, 1, 1},
+    {"table-of-8200-bytes", ASSIGNED, "", 0, "1", "", 8200, 1, 1},
+    {"table-of-65536-bytes", ASSIGNED, "", 0, "1", "", 65536, 1, 1},
+    {"64-types-by-two-closers", TYPED, "A<A<", 32, "A", ">>", 0, 2, 1},
+    {"66-types-by-two-closers", TYPED, "A<A<", 33, "A", ">>", 0, 2, 1},
+    {"63-parentheses-in-edition-2", ASSIGNED, "(", 63, "@2024-02-29", ")", 0, 2, 1},
+    {"table-of-8192-bytes-in-no-order", ASSIGNED, "", 0, "1", "", 8192, 1, 619},
+    {"table-of-65536-bytes-in-no-order", ASSIGNED, "", 0, "1", "", 65536, 1, 5021},
 };
 static const size_t count = sizeof all / sizeof all[0];
 
@@ -51,7 +54,8 @@ static uint32_t tree[QUANTA_TREE_LEN(2048)];
 static size_t words_len;
 static uint32_t edition, number;
 
-/* The source; and the table, of words of five letters that count from `aaaaa` on. */
+/* The source; and the table, of words of five letters that count from `aaaaa` on, each once: the records are a power of two or
+ * the step is 1. */
 static void make(const struct nested *nested)
 {
     edition = nested->edition;
@@ -63,8 +67,9 @@ static void make(const struct nested *nested)
         strcat(source, nested->close);
     strcat(source, nested->back);
     words_len = 0;
-    for (uint32_t n = 0; words_len + 8 <= nested->table; n++, words_len += 8) {
-        uint32_t rest = n;
+    uint32_t records = (uint32_t)(nested->table / 8);
+    for (uint32_t n = 0; n < records; n++, words_len += 8) {
+        uint32_t rest = n * nested->step % records;
         memcpy(words + words_len, "FW\005", 3);
         for (int i = 7; i >= 3; i--, rest /= 26)
             words[words_len + i] = (uint8_t)('a' + rest % 26);
