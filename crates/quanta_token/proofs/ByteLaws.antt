@@ -1,5 +1,5 @@
 -- The laws of the byte classes: what the chart says of a byte is what the tests say, by one test computed over the 256 bytes.
-use Prim.Native.Nat.{ℕ, zero, suc, ◌<◌}
+use Prim.Native.Nat.{ℕ, zero, suc, ◌<◌, ◌≤◌}
 use mathlib.Core.Path.{◌≡◌, refl, sym, ◌∙◌}
 use mathlib.Core.Bool.{Bool, true, false, not, ◌&&◌, or-true}
 use native.Mathlib.Omega.{arith}
@@ -7,11 +7,13 @@ use lib.Dec.{eqb}
 use borrow.Author.Tests.{eqb-true, eqb-false}
 use Rattle.quanta_token.proofs.BoolLaws.{both}
 use denote.Enum.Bare.{sameb, true_same, false_same}
-use Rattle.std.proofs.Common.{rules, ◌⊎◌, inl, inr}
+use Rattle.std.proofs.Common.{rules, ◌⊎◌, inl, inr, List, length}
+use Rattle.std.proofs.lemmas.Bool.{cases_lt}
+use Rattle.std.proofs.lemmas.List.{get_or_past}
 use Rattle.quanta_token.specs.declared.bytes.ByteClass.{ByteClass}
-use Rattle.quanta_token.specs.declared.bytes.ByteClass.TheVariants.{WordStart, Digit, Blank, Quote}
+use Rattle.quanta_token.specs.declared.bytes.ByteClass.TheVariants.{WordStart, Digit, Blank, Quote, Other}
 use Rattle.quanta_token.specs.contracts.bytes.ByteClass.{the_type}
-use Rattle.quanta_token.specs.Bytes.{digit, word_start, word_byte, blank, class_of}
+use Rattle.quanta_token.specs.Bytes.{digit, word_start, word_byte, blank, class_of, Chart}
 
 -- f holds of each number below n
 unfoldable all : (ℕ → Bool) → ℕ → Bool
@@ -80,3 +82,15 @@ pub word_out :
     false ≡ word_byte c
 word_out c k l e w d =
     rw (sym (word_start_class c l) ∙ unlike WordStart c k e w, sym (digit_class c l) ∙ unlike Digit c k e d)
+
+-- a chart has all 256 entries: past its end it would say that a byte begins a word, and the last byte begins none
+pub chart_whole : (t : List ByteClass) → Chart t → 255 < length t
+unfolding class_of
+chart_whole t h = at (cases_lt 255 (length t))
+  where
+    at : (255 < length t) ⊎ (length t ≤ 255) → 255 < length t
+    at (inl l) = l
+    at (inr s) = absurd (other (sym (get_or_past t 255 WordStart s) ∙ h 255 (omega arith)))
+      where
+        other : (WordStart ≡ Other) → ⊥
+        other z = search rules

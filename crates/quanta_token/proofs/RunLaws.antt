@@ -7,6 +7,13 @@ use native.Mathlib.Omega.{arith}
 use native.Mathlib.Numerals.{add-one}
 use lib.ListN.{drop, get_or, length, length-drop, drop_of_length-le}
 use lib.Seq.{drop-cons, drop-drop}
+use Rattle.std.specs.Prelude.{Option, Some, None, cond, not, ltb}
+use Rattle.std.specs.Option.{unwrap_or}
+use Rattle.std.specs.List.{position_or_len}
+use Rattle.std.proofs.Common.{◌⊎◌, inl, inr, eq-or-lt_of_le, ap, sym, ◌∙◌}
+use Rattle.std.proofs.lemmas.List.Recursion.{is_position_or_len}
+use Rattle.std.proofs.lemmas.List.Sums.{prefix_len-le-length}
+use borrow.Author.Tests.{lt-ltb, le-ltb}
 use Rattle.quanta_token.specs.Runs.{run, run_end}
 
 module _ (p : ℕ → Bool) where
@@ -63,3 +70,34 @@ module _ (p : ℕ → Bool) where
 
   pub end_bounds : (s : List ℕ) (i e : ℕ) → i ≤ length s → e ≡ run_end p s i → (i ≤ e) × (e ≤ length s)
   end_bounds s i e h q = rw q (end_from s i, end_within s i h)
+
+  -- the end of a run is the first place that does not go on
+  pub end_is : (s : List ℕ) (i : ℕ) → run_end p s i ≡ i + position_or_len (λ c. not (p c)) (drop i s)
+  unfolding run_end run
+  end_is s i = rw (is_position_or_len (run p) (λ c. not (p c)) refl more (drop i s)) refl
+    where
+      at : (c : ℕ) (cs : List ℕ) (b : Bool) → p c ≡ b → run p (c ∷ cs) ≡ cond (not (p c)) 0 (1 + run p cs)
+      at c cs true h = rw (run_more c cs h, h) (omega arith)
+      at c cs false h = rw (run_stop c cs h, h) refl
+
+      more : (c : ℕ) (cs : List ℕ) → run p (c ∷ cs) ≡ cond (not (p c)) 0 (1 + run p cs)
+      more c cs = at c cs (p c) refl
+
+  -- .. as a search from i on tells it
+  pub end_at :
+      (s : List ℕ) (i : ℕ) {l : List ℕ} {o : Option ℕ} {r : ℕ}
+      → l ≡ drop i s
+      → let q = position_or_len (λ c. not (p c)) l in
+      o ≡ cond (ltb q (length l)) (Some q) None
+      → r ≡ unwrap_or o (length l)
+      → i + r ≡ run_end p s i
+  end_at s i {l} d e u =
+      ap (λ (n : ℕ). i + n)
+      (u ∙ ap (λ (x : Option ℕ). unwrap_or x (length l)) e
+      ∙ chosen (eq-or-lt_of_le (prefix_len-le-length (λ (c : ℕ). not (not (p c))) l))
+      ∙ ap (λ (k : List ℕ). position_or_len (λ c. not (p c)) k) d)
+      ∙ sym (end_is s i)
+    where
+      chosen : {n m : ℕ} → (n ≡ m) ⊎ (n < m) → unwrap_or (cond (ltb n m) (Some n) None) m ≡ n
+      chosen {n} {m} (inl e) = rw (le-ltb n m (omega arith)) (sym e)
+      chosen {n} {m} (inr h) = rw (lt-ltb n m h) refl

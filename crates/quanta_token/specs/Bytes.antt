@@ -41,7 +41,7 @@ class_of c =
 
 -- a chart has at each byte its class
 abbrev pub Chart : List ByteClass → Type 0
-Chart t = (c : ℕ) → c < 256 → get_or t c Other ≡ class_of c
+Chart t = (c : ℕ) → c < 256 → get_or t c WordStart ≡ class_of c
 
 -- what goes on with each run: blanks; a word; digits and `_`; anything but LF; anything but LF and `"`
 abbrev pub goes_on : Run → ℕ → Bool

@@ -146,12 +146,9 @@ impl ByteChart {
         requires { from ≤ length src.now }
         ensures { result ≡ run_end (goes_on run) src.now from }
     {
-        for i in from..src.len() {
-            if !self.goes_on(run, src[i]) {
-                return i;
-            }
-        }
-        src.len()
+        let rest = &src[from..];
+        let stop = rest.iter().position(|c| !self.goes_on(run, *c));
+        from + stop.unwrap_or(rest.len())
     }
 }
 
