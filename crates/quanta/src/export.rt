@@ -7,10 +7,13 @@ ghost use Rattle.std.specs.Prelude.{◌≡◌, length};
 ghost use Rattle.quanta_text.specs.Places.{place_of};
 ghost use Rattle.quanta_grammar.specs.Productions.{program_call, item_call, stmt_call, expr_call, type_call};
 ghost use Rattle.quanta_parser.specs.Whole.{symbol_of};
+ghost use Rattle.quanta_reading.specs.Reading.{Conforms};
+ghost use Rattle.quanta_reading.specs.Demand3.{Faithful};
 ghost use Rattle.quanta_reading.specs.Values.{Exported};
 
-use crate::calls::read;
+use crate::calls::{parse, parse_expr, parse_item, parse_stmt, parse_type};
 use quanta_parser::whole::Call;
+use quanta_reading::answer::{Counts, Failure};
 use quanta_reading::outcome::{Outcome, numbers_of, unknown_edition};
 use quanta_text::place::place;
 use quanta_token::edition::Edition;
@@ -21,6 +24,27 @@ use quanta_token::edition::Edition;
 pub struct Place {
     pub line: u64,
     pub column: u64,
+}
+
+// The public call of what is read.
+fn made(
+    call: Call,
+    edition: Edition,
+    source: &[u8],
+    words: &[u8],
+    tokens: &mut [u32],
+    tree: &mut [u32],
+) -> Result<Counts, Failure>
+    ensures { Conforms edition (symbol_of call) source.now words.now (length tokens.old) (length tree.old) result tokens.new tree.new
+        × Faithful edition (symbol_of call) source.now words.now (length tokens.old) (length tree.old) result tree.new }
+{
+    match call {
+        Call::Program => parse(edition, source, words, tokens, tree),
+        Call::Item => parse_item(edition, source, words, tokens, tree),
+        Call::Stmt => parse_stmt(edition, source, words, tokens, tree),
+        Call::Expr => parse_expr(edition, source, words, tokens, tree),
+        Call::Type => parse_type(edition, source, words, tokens, tree),
+    }
 }
 
 // A call by what it reads, in document 01's numbers.
@@ -37,7 +61,7 @@ fn exported(
     match Edition::try_from(edition) {
         Err(_) => unknown_edition(tokens, tree),
         Ok(edition) => {
-            let answer = read(call, edition, source, words, tokens, tree);
+            let answer = made(call, edition, source, words, tokens, tree);
             numbers_of(answer)
         }
     }

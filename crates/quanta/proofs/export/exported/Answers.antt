@@ -6,7 +6,7 @@ use Rattle.quanta_reading.proofs.Exporting.{known, no_such}
 use Rattle.quanta.proofs.export.exported.Goals as goal
 
 pub numbers_of-requires : goal.numbers_of-requires
-numbers_of-requires c = fits (call_of c.args.call) c.read-answer.ensures.0
+numbers_of-requires c = fits (call_of c.args.call) c.made-answer.ensures.0
 
 pub returns-in-Err : goal.returns-in-Err
 returns-in-Err c = no_such c.in-Err.is c.try_from.ensures c.unknown_edition.ensures
@@ -14,4 +14,4 @@ returns-in-Err c = no_such c.in-Err.is c.try_from.ensures c.unknown_edition.ensu
 pub returns-in-Ok : goal.returns-in-Ok
 returns-in-Ok c =
     known c.in-Ok.is c.try_from.ensures
-    (c.read-answer.result, c.numbers_of.ensures, c.read-answer.ensures.0, c.read-answer.ensures.1)
+    (c.made-answer.result, c.numbers_of.ensures, c.made-answer.ensures.0, c.made-answer.ensures.1)
