@@ -86,7 +86,7 @@ fn taken(said: &str, name: &str) -> usize {
     line.unwrap().split(' ').nth(2).unwrap().parse().unwrap()
 }
 
-// But for what the calls within may write below their frames.
+// The sort alone makes the difference: it is a leaf, and writes a few words below the frame that calls it.
 #[test]
 fn a_table_takes_the_same_stack_in_any_order() {
     let output = run(&compiled("cc", "gnu17", "stack.c"), &[]);
